@@ -1,0 +1,5 @@
+pub mod Read
+pub mod Room
+pub mod Steps
+pub mod Whole
+pub mod Promise

@@ -1,0 +1,88 @@
+-- An accepted book keeps its promises: each check that refuses nothing says what it says of every record. Assumes nothing.
+use Prim.Native.Nat.{ℕ, _+_, _≤_, _<_}
+use mathlib.Core.List.{List}
+use mathlib.Core.Path.{_≡_, refl, sym, _∙_}
+use mathlib.Core.Bool.{Bool, true, false, _&&_, cond}
+use borrow.Author.Tests.{eqb-true}
+use lib.Dec.{eqb}
+use native.Mathlib.Omega.{arith}
+use Rattle.ground.proofs.Every.{every}
+use Rattle.sections.specs.Refusal.{firstOf}
+use Rattle.sections.specs.Total.{totalOf, keyed}
+use Rattle.sections.specs.declared.Verdict.the-variants.{Accepted}
+use Rattle.sections.proofs.Refusal.{first-held, record-held, unless-held}
+use Rattle.sections.proofs.Total.{total-mono}
+use Rattle.records.specs.declared.rows.EnergyRow.{EnergyRow}
+use Rattle.factors.proofs.Said.{owner-of, whole-of, plain-of}
+use Rattle.totals.specs.Sums.{regionOf, aceOf, asoeOf, residualOf, SumsTo}
+use Rattle.totals.proofs.Said.{entry-of, divisor-of, funded-of}
+use Rattle.book.specs.Header.{headerOf, rangeTests, inRange}
+use Rattle.book.specs.Book.{Book, bookOf}
+use Rattle.book.specs.Table.{check3, check4, check5, check6, check7, check8, check9, check10, recordChecks, verdict}
+use Rattle.book.specs.Accepted.{ownIn, Within, Promise, AcceptedBook}
+use Rattle.book.proofs.Whole.{few-of}
+use Rattle.book.proofs.Steps.{fields-of, ordered-of}
+
+-- ---- an account's own energy
+
+-- what counts for an account in a region counts for the region
+own-part : (a b : Bool) (x : ℕ) → cond (a && b) x 0 ≤ cond b x 0
+own-part true b x = by b
+  where
+    by : (b : Bool) → cond b x 0 ≤ cond b x 0
+    by true = omega arith
+    by false = omega arith
+own-part false b x = omega arith
+
+own-within : (B : Book) (account g : ℕ) (f : EnergyRow → ℕ) → ownIn B account g f ≤ totalOf (regionOf (B .energy)) g (λ i. f (B .energy i)) (B .header .energies)
+unfolding ownIn keyed
+own-within B account g f =
+    total-mono _ _ (B .header .energies) (λ i. own-part (eqb (B .energy i .account) account) (eqb (B .energy i .region) g) (f (B .energy i)))
+
+own-of : (B : Book) → ((g : ℕ) → g < 5 → SumsTo (B .entry g) (totalOf (regionOf (B .energy)) g (aceOf (B .energy)) (B .header .energies)) (totalOf (regionOf (B .energy)) g (asoeOf (B .energy)) (B .header .energies)) (totalOf (regionOf (B .energy)) g (residualOf (B .energy)) (B .header .energies))) → (account g : ℕ) → g < 5 → Within (B .entry g) (ownIn B account g (λ r. r .ace)) (ownIn B account g (λ r. r .asoe)) (ownIn B account g (λ r. r .race + r .rasoe))
+own-of B s account g l =
+    record {
+      ace = rw (s g l .ace) (own-within B account g (λ r. r .ace));
+      asoe = rw (s g l .asoe) (own-within B account g (λ r. r .asoe));
+      residual = rw (s g l .residual) (own-within B account g (λ r. r .race + r .rasoe));
+    }
+
+-- ---- all of it
+
+from-records : (B : Book) → inRange (B .header) ≡ true → firstOf (recordChecks B) ≡ Accepted → Promise B
+unfolding check7 check8 check9 check10
+from-records B i e =
+    let c5 = first-held (check5 B) _ e in
+    let c6 = first-held (check6 B) _ (c5 .rest) in
+    let c7 = first-held (check7 B) _ (c6 .rest) in
+    let c8 = first-held (check8 B) _ (c7 .rest) in
+    let c9 = first-held (check9 B) _ (c8 .rest) in
+    let c10 = first-held (check10 B) _ (c9 .rest) in
+    let shared = first-held _ _ (c10 .here) in
+    let paid = first-held _ _ (shared .rest) in
+    let sums = entry-of (B .energy) (B .header .energies) (B .entry) (record-held _ _ _ _ (c9 .here)) in
+    record {
+      few = few-of (B .header) i;
+      period = every (rangeTests (B .header)) i .0;
+      fields = fields-of B (c5 .here) refl;
+      ordered = ordered-of B (c6 .here) refl;
+      owner = owner-of (B .constraint) (B .header .constraints) (B .unit) (B .header .units) (record-held _ _ _ _ (c7 .here));
+      factored = whole-of (B .unit) (B .header .units) (B .constraint) (B .header .constraints) (record-held _ _ _ _ (c8 .here));
+      default = plain-of (B .unit) (B .header .units) (B .constraint) (B .header .constraints) (record-held _ _ _ _ (c8 .here));
+      entry = sums;
+      divisor = divisor-of (B .entry) (B .constraint) (B .header .constraints) (record-held _ _ _ _ (shared .here));
+      funded = funded-of (B .entry) (B .contract) (B .header .contracts) (record-held _ _ _ _ (paid .here));
+      own = own-of B sums;
+    }
+
+pub accepted : (b : List ℕ) → verdict b ≡ Accepted → AcceptedBook b
+unfolding verdict check3 check4
+accepted b e =
+    let c1 = first-held _ _ e in
+    let c2 = first-held _ _ (c1 .rest) in
+    let c3 = first-held _ _ (c2 .rest) in
+    let c4 = first-held _ _ (c3 .rest) in
+    record {
+      long = eqb-true _ _ (unless-held 4 _ (c4 .here));
+      promise = from-records (bookOf b) (unless-held 3 _ (c3 .here)) (c4 .rest);
+    }

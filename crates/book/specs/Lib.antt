@@ -1,0 +1,5 @@
+pub mod Header
+pub mod Book
+pub mod Table
+pub mod Facts
+pub mod Accepted

@@ -1,0 +1,7 @@
+-- Every case of the table holds: each definition computes to the document's number. Assumes nothing.
+use mathlib.Core.Path.{refl}
+use Rattle.cases.specs.Cases.{table, AllHold}
+
+-- one `refl` for each row, in the table's order
+pub proved-cases : AllHold table
+proved-cases = (refl, (refl, (refl, (refl, (refl, tt)))))

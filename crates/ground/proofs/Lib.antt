@@ -1,0 +1,9 @@
+pub mod Every
+pub mod Part
+pub mod Put
+pub mod Le
+pub mod Back
+pub mod Bits
+pub mod Signs
+pub mod Rounding
+pub mod Sizes

@@ -1,0 +1,30 @@
+-- What the numbers of services, regions and modes stand for.
+use Prim.Native.Nat.{ℕ, _/_, _%_, _^_}
+use mathlib.Core.Bool.{Bool, _&&_, cond}
+use lib.Dec.{eqb, leb}
+use Rattle.records.specs.declared.kinds.Mode.{Mode}
+use Rattle.records.specs.declared.kinds.Mode.the-variants.{Contingency, Factored, Default, Unknown}
+
+-- 01, The book: "service u8, 1 to 10"
+abbrev pub isService : ℕ → Bool
+isService number = leb 1 number && leb number 10
+
+-- 01, The book: "each raise (odd) then lower (even)"
+abbrev pub raises : ℕ → Bool
+raises number = eqb (number % 2) 1
+
+-- 01, The book: "9 and 10 are regulation raise and lower"
+abbrev pub regulates : ℕ → Bool
+regulates number = leb 9 number
+
+-- 01, The book: "The regions of a constraint are one bit each, bit 0 for NSW1"
+abbrev pub bitSet : ℕ → ℕ → Bool
+bitSet mask region = eqb (mask / 2 ^ region % 2) 1
+
+-- 01, The book: "Mode 0 (contingency) .. Mode 1 (factored) and mode 2 (default, no factors received)"; "Only when a constraint is
+-- factored are its price, response and usage read for an amount."
+unfoldable pub modeWith : ℕ → ℕ → ℕ → ℕ → Mode
+modeWith number price response usage =
+    cond (eqb number 0) Contingency
+    (cond (eqb number 1) (Factored price response usage)
+    (cond (eqb number 2) Default Unknown))

@@ -1,0 +1,5 @@
+pub mod Kinds
+pub mod Rows
+pub mod Rules
+pub mod Checks
+pub mod Facts

@@ -1,0 +1,130 @@
+// Services, regions and a constraint's mode: what the numbers of a record stand for.
+// Raise or lower, the region's bit and the mode's data are asked here and nowhere else.
+ghost use mathlib.Core.Path.{_≡_};
+ghost use Prim.Native.Nat.{_^_, _<_};
+ghost use Rattle.records.specs.Kinds.{isService, raises, regulates, bitSet, modeWith};
+
+// A market frequency service, by its number.
+pub struct Service {
+    pub number: u8,
+}
+
+impl Service {
+    pub const VERY_FAST_RAISE: Service = Service { number: 1 };
+
+    pub const VERY_FAST_LOWER: Service = Service { number: 2 };
+
+    pub const FAST_RAISE: Service = Service { number: 3 };
+
+    pub const FAST_LOWER: Service = Service { number: 4 };
+
+    pub const SLOW_RAISE: Service = Service { number: 5 };
+
+    pub const SLOW_LOWER: Service = Service { number: 6 };
+
+    pub const DELAYED_RAISE: Service = Service { number: 7 };
+
+    pub const DELAYED_LOWER: Service = Service { number: 8 };
+
+    pub const REGULATION_RAISE: Service = Service { number: 9 };
+
+    pub const REGULATION_LOWER: Service = Service { number: 10 };
+
+    pub fn of(number: u8) -> Service
+        ensures { λ r. ⌜ r .number ≡ number ⌝ }
+    {
+        Service { number }
+    }
+
+    // One of the ten.
+    pub fn is_known(self) -> bool
+        ensures { λ r. ⌜ r ≡ isService (self .number) ⌝ }
+    {
+        (Self::VERY_FAST_RAISE.number <= self.number)
+            & (self.number <= Self::REGULATION_LOWER.number)
+    }
+
+    // Raise services have odd numbers, lower ones even.
+    pub fn is_raise(self) -> bool
+        ensures { λ r. ⌜ r ≡ raises (self .number) ⌝ }
+    {
+        self.number % 2 == 1
+    }
+
+    // Regulation raise and lower stand last.
+    pub fn is_regulation(self) -> bool
+        ensures { λ r. ⌜ r ≡ regulates (self .number) ⌝ }
+    {
+        Self::REGULATION_RAISE.number <= self.number
+    }
+}
+
+// A region of the market, by its number.
+pub struct Region {
+    pub number: u8,
+}
+
+impl Region {
+    pub const NSW1: Region = Region { number: 0 };
+
+    pub const QLD1: Region = Region { number: 1 };
+
+    pub const SA1: Region = Region { number: 2 };
+
+    pub const TAS1: Region = Region { number: 3 };
+
+    pub const VIC1: Region = Region { number: 4 };
+
+    pub const COUNT: usize = 5;
+
+    pub fn of(number: u8) -> Region
+        ensures { λ r. ⌜ r .number ≡ number ⌝ }
+    {
+        Region { number }
+    }
+
+    // Whether the region's bit is set in a constraint's regions.
+    pub fn is_in(self, mask: u8) -> bool
+        requires { ⌜ self .number < 5 ⌝ }
+        ensures { λ r. ⌜ r ≡ bitSet mask (self .number) ⌝ }
+    {
+        mask >> self.number & 1 == 1
+    }
+
+    // The mask of this one region.
+    pub fn bit(self) -> u8
+        requires { ⌜ self .number < 5 ⌝ }
+        ensures { λ r. ⌜ r ≡ 2 ^ (self .number) ⌝ }
+    {
+        1 << self.number
+    }
+}
+
+// How a constraint's cost is shared. Only a factored one has a price, a response and a usage.
+pub enum Mode {
+    Contingency,
+    Factored {
+        price: u32,
+        response: u32,
+        usage: u32,
+    },
+    Default,
+    Unknown,
+}
+
+impl Mode {
+    pub fn of(number: u8, price: u32, response: u32, usage: u32) -> Mode
+        ensures { λ r. ⌜ r ≡ modeWith number price response usage ⌝ }
+    {
+        match number {
+            0 => Mode::Contingency,
+            1 => Mode::Factored {
+                price,
+                response,
+                usage,
+            },
+            2 => Mode::Default,
+            _ => Mode::Unknown,
+        }
+    }
+}

@@ -1,0 +1,67 @@
+-- The region sums turn by turn, the test of an entry, and the sum over a mask. Assumes nothing.
+use Prim.Native.Nat.{ℕ, _+_, _/_, _%_, _^_, _≤_, _<_}
+use mathlib.Core.Path.{_≡_, ap, _∙_}
+use mathlib.Core.Bool.{Bool, true, false, cond}
+use native.Mathlib.Omega.{arith}
+use lib.Dec.{eqb}
+use lib.ListN.{getD, set, replicate}
+use Rattle.sections.proofs.Groups.{split-none, split-more, split-bound}
+use Rattle.records.specs.Kinds.{raises, regulates, bitSet}
+use Rattle.records.specs.Facts.{EntryRule, EnergyRule}
+use Rattle.records.specs.declared.rows.Entry.{Entry}
+use Rattle.records.specs.declared.rows.Constraint.{Constraint}
+use Rattle.records.specs.declared.rows.EnergyRow.{EnergyRow}
+use Rattle.totals.specs.Sums.{entryIs, entryAt}
+use Rattle.totals.specs.Turns.{TotalsOf}
+use Rattle.totals.specs.Divisors.{basisOf, shareOf}
+use Rattle.totals.specs.declared.entries.Totals.{Totals}
+
+-- one row more in its region's sums
+pub record Put (t : Totals) (r : EnergyRow) (x : Totals) : Type 0 where
+  pub ace : x .ace ≡ set (t .ace) (r .region) (getD (t .ace) (r .region) 0 + r .ace)
+  pub asoe : x .asoe ≡ set (t .asoe) (r .region) (getD (t .asoe) (r .region) 0 + r .asoe)
+  pub residual : x .residual ≡ set (t .residual) (r .region) (getD (t .residual) (r .region) 0 + (r .race + r .rasoe))
+
+module _ (energy : ℕ → EnergyRow) where
+  pub totals-none : TotalsOf energy 0 (record { ace = replicate 5 0; asoe = replicate 5 0; residual = replicate 5 0 })
+  totals-none = record { ace = split-none _ _ 5; asoe = split-none _ _ 5; residual = split-none _ _ 5 }
+
+  -- a turn: r is row i, and x the sums with it
+  pub totals-more : (i : ℕ) {t x : Totals} {r : EnergyRow} → TotalsOf energy i t → r ≡ energy i → EnergyRule r → Put t r x → TotalsOf energy (i + 1) x
+  totals-more i h e q p =
+      let g = ap (λ (r : EnergyRow). r .region) e in
+      let b = q .region in
+      record {
+        ace = rw (p .ace) (split-more _ _ 5 i (h .ace) g (omega arith) (ap (λ (r : EnergyRow). r .ace) e));
+        asoe = rw (p .asoe) (split-more _ _ 5 i (h .asoe) g (omega arith) (ap (λ (r : EnergyRow). r .asoe) e));
+        residual = rw (p .residual) (split-more _ _ 5 i (h .residual) g (omega arith) (ap (λ (r : EnergyRow). r .race + r .rasoe) e));
+      }
+
+  -- the sums of at most 1,024 rows are small
+  pub record Small (t : Totals) (g : ℕ) : Type 0 where
+    pub ace : getD (t .ace) g 0 ≤ 50000000000
+    pub asoe : getD (t .asoe) g 0 ≤ 50000000000
+    pub residual : getD (t .residual) g 0 ≤ 50000000000
+
+  pub totals-small : (n i : ℕ) {t : Totals} → n ≤ 1024 → ((i : ℕ) → i < n → EnergyRule (energy i)) → i ≤ n → TotalsOf energy i t → (g : ℕ) → g < 5 → Small t g
+  totals-small n i few q l h g b =
+      record {
+        ace = omega (arith, split-bound _ _ 5 40000000 n (λ j k. omega (arith, q j k .ace)) i (h .ace) l g b);
+        asoe = omega (arith, split-bound _ _ 5 40000000 n (λ j k. omega (arith, q j k .asoe)) i (h .asoe) l g b);
+        residual = omega (arith, split-bound _ _ 5 40000000 n (λ j k. let a = q j k in omega arith) i (h .residual) l g b);
+      }
+
+  -- the test of an entry against the sums is the rule
+  pub entry-is-at : (n : ℕ) (entry : ℕ → Entry) (g : ℕ) {e : Entry} {t : Totals} {b : Bool} → TotalsOf energy n t → g < 5 → e ≡ entry g → b ≡ entryIs e (getD (t .ace) g 0) (getD (t .asoe) g 0) (getD (t .residual) g 0) → b ≡ entryAt energy n entry g
+  unfolding entryAt
+  entry-is-at n entry g h l e q = q ∙ rw (h .ace .each g l, h .asoe .each g l, h .residual .each g l, e)
+
+pub share-small : (r : Constraint) (e : Entry) (g : ℕ) → EntryRule e → shareOf r e g ≤ 20000000
+unfolding shareOf basisOf
+share-small r e g h = by (bitSet (r .mask) g) (regulates (r .service)) (raises (r .service))
+  where
+    by : (x y z : Bool) → cond x (cond y (e .residual) (cond z (e .asoe) (e .ace))) 0 ≤ 20000000
+    by true true z = h .residual
+    by true false true = h .asoe
+    by true false false = h .ace
+    by false y z = omega arith

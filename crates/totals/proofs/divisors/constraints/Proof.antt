@@ -1,0 +1,53 @@
+-- `totals::divisors::constraints` meets its contract. The invariant: no constraint so far is refused. The measure is what is left. Assumes nothing.
+use Prim.Native.Nat.{_≤_, _-_}
+use mathlib.Core.Path.{_≡_}
+use native.Mathlib.Omega.{arith}
+use borrow.Author.Needs.{needs}
+use Rattle.sections.specs.First.{firstBad}
+use Rattle.sections.specs.declared.Checked.the-variants.{Good}
+use Rattle.sections.proofs.First.{first-none, first-more, first-stop, first-all}
+use Rattle.records.specs.Rows.{entryRow, constraintRow}
+use Rattle.totals.specs.Divisors.{constraintDivides}
+use Rattle.totals.proofs.divisors.constraints.Statement.{statement}
+use Rattle.totals.proofs.divisors.constraints.Tie as tie
+
+abbrev Inv-loop : tie.InvT-loop
+Inv-loop regions cons n j₀ j = (j ≤ n) × (firstBad (constraintDivides (entryRow regions) (constraintRow cons)) j ≡ Good)
+
+abbrev μ-loop : tie.MeasureT-loop
+μ-loop regions cons n j₀ j = n - j
+
+loop-holds : tie.Need-loop-holds Inv-loop μ-loop
+loop-holds c = (search needs, first-none _)
+
+constraint-divides-requires : tie.Need-constraint-divides-requires Inv-loop μ-loop
+constraint-divides-requires c κs = (search needs, c .before .before .before .before .pre .1)
+
+returns : tie.Need-returns Inv-loop μ-loop
+returns c = first-stop _ _ _ (c .before .before .before .loop .inv .1) (c .before .constraint-divides .ensures) (c .if1 .taken) (search needs)
+
+add-j : tie.Need-add-j Inv-loop μ-loop
+add-j c = search needs
+
+loop-less : tie.Need-loop-less Inv-loop μ-loop
+loop-less c = search needs
+
+loop-again : tie.Need-loop-again Inv-loop μ-loop
+loop-again c = (search needs, first-more _ _ (c .before .before .before .loop .inv .1) (c .before .constraint-divides .ensures) (c .if1 .left))
+
+returns-2 : tie.Need-returns-2 Inv-loop μ-loop
+returns-2 c = first-all _ _ _ (c .before .loop .inv .1) (omega arith)
+
+pub constraints-spec : {M : Type 1} → statement M
+constraints-spec =
+    tie.close
+    (tie.spec
+    Inv-loop
+    μ-loop
+    loop-holds
+    constraint-divides-requires
+    returns
+    add-j
+    loop-less
+    loop-again
+    returns-2)

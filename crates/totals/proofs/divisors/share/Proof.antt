@@ -1,0 +1,26 @@
+-- `totals::divisors::share` meets its contract. The region's bit decides the case. Assumes nothing.
+use mathlib.Core.Path.{sym, _∙_}
+use borrow.Author.Needs.{needs}
+use Rattle.totals.specs.Divisors.{shareOf}
+use Rattle.totals.proofs.divisors.share.Statement.{statement}
+use Rattle.totals.proofs.divisors.share.Tie as tie
+
+of-requires : tie.Need-of-requires
+of-requires c κs = search needs
+
+is-in-requires : tie.Need-is-in-requires
+is-in-requires c κs = search needs
+
+basis-requires : tie.Need-basis-requires
+basis-requires c κs = search needs
+
+returns : tie.Need-returns
+unfolding shareOf
+returns c = rw (rw (c .before .before .before .of .ensures) at (sym (c .before .before .is-in .ensures) ∙ c .before .if1 .taken)) (c .basis .ensures)
+
+returns-2 : tie.Need-returns-2
+unfolding shareOf
+returns-2 c = rw (rw (c .before .before .of .ensures) at (sym (c .before .is-in .ensures) ∙ c .if1 .left))
+
+pub share-spec : {M : Type 1} → statement M
+share-spec = tie.close (tie.spec of-requires is-in-requires basis-requires returns returns-2)
