@@ -140,8 +140,7 @@ pub(crate) fn records(book: &[u8], h: Header) -> Verdict
     if let Verdict::Refused(number, place) = factor_sums(book, h) {
         return Verdict::Refused(number, place);
     }
-    if let Verdict::Refused(number, place) = region_sums(book, h) {
-        return Verdict::Refused(number, place);
-    }
-    zero_totals(book, h)
+    let entries = region_sums(book, h);
+    let divisors = zero_totals(book, h);
+    sections::earlier(entries, divisors)
 }

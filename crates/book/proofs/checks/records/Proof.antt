@@ -56,20 +56,14 @@ enum-told-4 c = search needs
 region-sums-requires : tie.Need-region-sums-requires
 region-sums-requires c κs = (c .before .before .before .before .before .before .before .before .before .before .before .before .before .pre, fields-of _ (c .before .before .before .before .before .before .before .before .before .enum-told .given .1) (c .before .before .before .before .before .before .before .before .before .before .before .fields .ensures))
 
-enum-known-number-5 : tie.Need-enum-known-number-5
-enum-known-number-5 c = search needs
+zero-totals-requires : tie.Need-zero-totals-requires
+zero-totals-requires c κs = (c .before .before .before .before .before .before .before .before .before .before .before .before .before .before .pre, fields-of _ (c .before .before .before .before .before .before .before .before .before .before .enum-told .given .1) (c .before .before .before .before .before .before .before .before .before .before .before .before .fields .ensures))
+
+earlier-requires : tie.Need-earlier-requires
+earlier-requires c κs = search needs
 
 returns-5 : tie.Need-returns-5
-returns-5 c = verdict-go _ (c .before .before .before .before .before .before .before .before .before .before .before .before .before .enum-told .given .1) (c .before .before .before .before .before .before .before .before .before .before .before .before .before .before .before .fields .ensures) (verdict-go _ (c .before .before .before .before .before .before .before .before .before .before .enum-told2 .given .1) (c .before .before .before .before .before .before .before .before .before .before .before .before .order .ensures) (verdict-go _ (c .before .before .before .before .before .before .before .enum-told3 .given .1) (c .before .before .before .before .before .before .before .before .before .names .ensures) (verdict-go _ (c .before .before .before .before .enum-told4 .given .1) (c .before .before .before .before .before .before .factor-sums .ensures) (verdict-stop _ (c .before .number5 .given .1) (c .before .before .before .region-sums .ensures)))))
-
-enum-told-5 : tie.Need-enum-told-5
-enum-told-5 c = search needs
-
-zero-totals-requires : tie.Need-zero-totals-requires
-zero-totals-requires c κs = (c .before .before .before .before .before .before .before .before .before .before .before .before .before .before .before .before .pre, fields-of _ (c .before .before .before .before .before .before .before .before .before .before .before .before .enum-told .given .1) (c .before .before .before .before .before .before .before .before .before .before .before .before .before .before .fields .ensures))
-
-returns-6 : tie.Need-returns-6
-returns-6 c = verdict-go _ (c .before .before .before .before .before .before .before .before .before .before .before .before .before .enum-told .given .1) (c .before .before .before .before .before .before .before .before .before .before .before .before .before .before .before .fields .ensures) (verdict-go _ (c .before .before .before .before .before .before .before .before .before .before .enum-told2 .given .1) (c .before .before .before .before .before .before .before .before .before .before .before .before .order .ensures) (verdict-go _ (c .before .before .before .before .before .before .before .enum-told3 .given .1) (c .before .before .before .before .before .before .before .before .before .names .ensures) (verdict-go _ (c .before .before .before .before .enum-told4 .given .1) (c .before .before .before .before .before .before .factor-sums .ensures) (verdict-go _ (c .before .enum-told5 .given .1) (c .before .before .before .region-sums .ensures) (verdict-last (c .zero-totals .ensures))))))
+returns-5 c = verdict-go _ (c .before .before .before .before .before .before .before .before .before .before .before .before .enum-told .given .1) (c .before .before .before .before .before .before .before .before .before .before .before .before .before .before .fields .ensures) (verdict-go _ (c .before .before .before .before .before .before .before .before .before .enum-told2 .given .1) (c .before .before .before .before .before .before .before .before .before .before .before .order .ensures) (verdict-go _ (c .before .before .before .before .before .before .enum-told3 .given .1) (c .before .before .before .before .before .before .before .before .names .ensures) (verdict-go _ (c .before .before .before .enum-told4 .given .1) (c .before .before .before .before .before .factor-sums .ensures) (verdict-last (c .before .before .region-sums .ensures) (c .before .zero-totals .ensures) (c .earlier .ensures)))))
 
 pub records-spec : {M : Type 1} → statement M
 records-spec =
@@ -92,8 +86,6 @@ records-spec =
     returns-4
     enum-told-4
     region-sums-requires
-    enum-known-number-5
-    returns-5
-    enum-told-5
     zero-totals-requires
-    returns-6)
+    earlier-requires
+    returns-5)
