@@ -1,5 +1,8 @@
 //! The library itself: linked where the machine runs x86-64 code, and asked
-//! through the bridge (`tests/bridge`) where it does not.
+//! through the bridge (`tests/bridge`) where it does not. The bridge is started
+//! by `tests/x86 run target/outer/bridge`; where the environment variable
+//! FERVOLATRO_BRIDGE is set, the program that it names is started instead, with
+//! no arguments.
 
 /// `fervolatro_verdict` of `include/fervolatro.h`.
 #[repr(C)]
@@ -8,12 +11,28 @@ pub(crate) struct Verdict {
     pub(crate) place: u64,
 }
 
+/// `fervolatro_written` of `include/fervolatro.h`.
+#[repr(C)]
+pub(crate) struct Written {
+    pub(crate) refusal: u64,
+    pub(crate) place: u64,
+    pub(crate) length: u64,
+}
+
 #[cfg(target_arch = "x86_64")]
 mod linked {
-    use super::Verdict;
+    use super::{Verdict, Written};
 
     extern "C" {
         fn fervolatro_check(book: *const u8, book_len: usize) -> Verdict;
+
+        fn fervolatro_statement(
+            book: *const u8,
+            book_len: usize,
+            account: u32,
+            buffer: *mut u8,
+            buffer_len: usize,
+        ) -> Written;
     }
 
     pub(crate) fn check(book: &[u8]) -> Verdict {
@@ -21,12 +40,27 @@ mod linked {
         // slice's pointer is never null; the library reads only and keeps nothing.
         unsafe { fervolatro_check(book.as_ptr(), book.len()) }
     }
+
+    pub(crate) fn statement(book: &[u8], account: u32, buffer: &mut [u8]) -> Written {
+        // SAFETY: as above; the buffer is lent to this call alone, so it does not
+        // overlap the book, and the library writes within its length.
+        unsafe {
+            fervolatro_statement(
+                book.as_ptr(),
+                book.len(),
+                account,
+                buffer.as_mut_ptr(),
+                buffer.len(),
+            )
+        }
+    }
 }
 
 #[cfg(not(target_arch = "x86_64"))]
 mod bridged {
-    use super::Verdict;
+    use super::{Verdict, Written};
     use std::cell::RefCell;
+    use std::env;
     use std::io::{Read, Write};
     use std::path::PathBuf;
     use std::process::{Child, ChildStdin, ChildStdout, Command, Stdio};
@@ -44,10 +78,7 @@ mod bridged {
 
     impl Bridge {
         fn start() -> Bridge {
-            let root = PathBuf::from(env!("CARGO_MANIFEST_DIR")).join("..");
-            let mut child = Command::new(root.join("tests/x86"))
-                .arg("run")
-                .arg(root.join("target/outer/bridge"))
+            let mut child = program()
                 .stdin(Stdio::piped())
                 .stdout(Stdio::piped())
                 .spawn()
@@ -59,20 +90,25 @@ mod bridged {
             }
         }
 
-        /// Sends one request and reads an answer of `N` numbers.
-        fn ask<const N: usize>(&mut self, request: &[u8]) -> [u64; N] {
+        fn send(&mut self, request: &[u8]) {
             self.requests
                 .write_all(request)
                 .expect("the bridge listens");
-            let mut answer = [0; N];
-            for number in &mut answer {
+        }
+
+        fn receive(&mut self, bytes: &mut [u8]) {
+            self.answers.read_exact(bytes).expect("the bridge answers");
+        }
+
+        /// Reads an answer of `N` numbers.
+        fn numbers<const N: usize>(&mut self) -> [u64; N] {
+            let mut numbers = [0; N];
+            for number in &mut numbers {
                 let mut bytes = [0; 8];
-                self.answers
-                    .read_exact(&mut bytes)
-                    .expect("the bridge answers");
+                self.receive(&mut bytes);
                 *number = u64::from_le_bytes(bytes);
             }
-            answer
+            numbers
         }
     }
 
@@ -84,18 +120,52 @@ mod bridged {
         }
     }
 
-    pub(crate) fn check(book: &[u8]) -> Verdict {
-        let len = u32::try_from(book.len()).expect("the bridge takes at most 4 GiB");
-        let mut request = Vec::with_capacity(5 + book.len());
-        request.push(b'c');
+    fn program() -> Command {
+        if let Some(program) = env::var_os("FERVOLATRO_BRIDGE") {
+            return Command::new(program);
+        }
+        let root = PathBuf::from(env!("CARGO_MANIFEST_DIR")).join("..");
+        let mut command = Command::new(root.join("tests/x86"));
+        command.arg("run").arg(root.join("target/outer/bridge"));
+        command
+    }
+
+    /// Adds a slice to a request: its length, then its bytes.
+    fn put_slice(request: &mut Vec<u8>, slice: &[u8]) {
+        let len = u32::try_from(slice.len()).expect("the bridge takes less than 4 GiB");
         request.extend_from_slice(&len.to_le_bytes());
-        request.extend_from_slice(book);
-        let [refusal, place] = BRIDGE.with_borrow_mut(|bridge| bridge.ask(&request));
-        Verdict { refusal, place }
+        request.extend_from_slice(slice);
+    }
+
+    pub(crate) fn check(book: &[u8]) -> Verdict {
+        let mut request = vec![b'c'];
+        put_slice(&mut request, book);
+        BRIDGE.with_borrow_mut(|bridge| {
+            bridge.send(&request);
+            let [refusal, place] = bridge.numbers();
+            Verdict { refusal, place }
+        })
+    }
+
+    pub(crate) fn statement(book: &[u8], account: u32, buffer: &mut [u8]) -> Written {
+        let mut request = vec![b's'];
+        put_slice(&mut request, book);
+        request.extend_from_slice(&account.to_le_bytes());
+        put_slice(&mut request, buffer);
+        BRIDGE.with_borrow_mut(|bridge| {
+            bridge.send(&request);
+            let [refusal, place, length] = bridge.numbers();
+            bridge.receive(buffer);
+            Written {
+                refusal,
+                place,
+                length,
+            }
+        })
     }
 }
 
 #[cfg(not(target_arch = "x86_64"))]
-pub(crate) use bridged::check;
+pub(crate) use bridged::{check, statement};
 #[cfg(target_arch = "x86_64")]
-pub(crate) use linked::check;
+pub(crate) use linked::{check, statement};

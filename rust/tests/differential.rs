@@ -3,9 +3,7 @@
 //! truncation, turned bits, noise. The same seed gives the same run; the
 //! environment variable FERVOLATRO_SEED sets another one.
 
-use std::env;
 use std::fmt::Write as _;
-use std::io::{self, Write as _};
 
 use fervolatro::book::{Book, Sections};
 use fervolatro::reference;
@@ -13,13 +11,10 @@ use fervolatro::testing::edges::{self, Edged};
 use fervolatro::testing::faults::{self, Fault, Spot};
 use fervolatro::testing::generate::{accepted_book, Sizes};
 use fervolatro::testing::random::Random;
+use fervolatro::testing::report::{self, shown};
 use fervolatro::testing::worked::{empty_book, worked_book};
 
-const DEFAULT_SEED: u64 = 20_250_608;
 const FEWEST_INPUTS: u64 = 200_000;
-
-/// Books up to this length are printed whole when the answers differ.
-const SHORT: usize = 1_024;
 
 /// Whole sizes that random draws seldom give, the largest legal book among them.
 const CHOSEN_SIZES: [Sizes; 6] = [
@@ -42,7 +37,7 @@ const fn sizes(constraints: usize, units: usize, energies: usize, contracts: usi
 
 #[test]
 fn library_and_reference_agree() {
-    let seed = seed();
+    let seed = report::seed();
     let mut run = Run {
         seed,
         random: Random::new(seed),
@@ -54,10 +49,7 @@ fn library_and_reference_agree() {
         run.family = name;
         family(&mut run);
     }
-    // Straight to the standard output, which the test harness does not hold back.
-    io::stdout()
-        .write_all(run.report().as_bytes())
-        .expect("the report can be written");
+    report::print(&run.report());
     for (number, &given) in run.answers.iter().enumerate() {
         assert!(given > 0, "no input was answered with {number}");
     }
@@ -85,13 +77,6 @@ const FAMILIES: [Family; 16] = [
     ("noise after a right header", noise_after_header),
     ("one record of noise", one_record_of_noise),
 ];
-
-fn seed() -> u64 {
-    match env::var("FERVOLATRO_SEED") {
-        Ok(text) => text.parse().expect("FERVOLATRO_SEED is a whole number"),
-        Err(_) => DEFAULT_SEED,
-    }
-}
 
 /// One run: where it stands, and how often each answer was given.
 struct Run {
@@ -173,17 +158,6 @@ impl Run {
         }
         report
     }
-}
-
-fn shown(book: &[u8]) -> String {
-    if book.len() > SHORT {
-        return format!("book of {} bytes", book.len());
-    }
-    let mut shown = String::from("book ");
-    for byte in book {
-        write!(shown, "{byte:02x}").expect("a string takes it");
-    }
-    shown
 }
 
 fn accepted_books(run: &mut Run) {

@@ -2,44 +2,84 @@
  * Answers calls of the library over standard input and output, so that tests on a machine that
  * cannot link x86-64 code can still ask the very library.
  *
- * A request is a letter and the arguments: 'c', then a u32 length and the book's bytes.
- * The answer is the struct of the header, field by field. All numbers are little-endian, as both
- * sides are. The end of the input ends the program.
+ * A request is a letter and the arguments, a slice being a u32 length and its bytes:
+ *   'c', the book: the answer is fervolatro_verdict, field by field;
+ *   's', the book, a u32 account, the buffer: the answer is fervolatro_written, field by field, and
+ *        then the whole buffer as the call left it.
+ * All numbers are little-endian, as both sides are. The end of the input ends the program.
+ *
+ * A lent buffer stands between guard bytes. If a call changes one of them, the program says so and
+ * ends with an error.
  */
 #include <stdio.h>
 #include <stdlib.h>
+#include <string.h>
 
 #include "fervolatro.h"
 
-/* A slice that was sent: kept from call to call, and grown where a longer one comes. */
+enum { GUARD_LEN = 4096, GUARD_BYTE = 0xA5 };
+
+/* A slice that was sent: kept from call to call, and grown where a longer one comes. It has guards
+ * before and after it. */
 typedef struct { uint8_t *bytes; uint32_t len, room; } slice;
+
+static _Noreturn void fail(const char *why)
+{
+    fprintf(stderr, "bridge: %s\n", why);
+    exit(2);
+}
 
 static void take(void *into, size_t len)
 {
     if (len != 0 && fread(into, 1, len, stdin) != len) {
-        fputs("bridge: the request ends early\n", stderr);
-        exit(2);
+        fail("the request ends early");
     }
+}
+
+static void make_room(slice *s)
+{
+    if (s->bytes != NULL) {
+        free(s->bytes - GUARD_LEN);
+    }
+    s->room = s->len + 65536;
+    s->bytes = malloc((size_t)s->room + 2 * GUARD_LEN);
+    if (s->bytes == NULL) {
+        fail("no memory");
+    }
+    s->bytes += GUARD_LEN;
 }
 
 static void take_slice(slice *s)
 {
     take(&s->len, sizeof s->len);
     if (s->bytes == NULL || s->len > s->room) {
-        free(s->bytes);
-        s->room = s->len + 65536;
-        s->bytes = malloc(s->room);
-        if (s->bytes == NULL) {
-            fputs("bridge: no memory\n", stderr);
-            exit(2);
-        }
+        make_room(s);
     }
     take(s->bytes, s->len);
 }
 
+static void set_guards(slice *s)
+{
+    memset(s->bytes - GUARD_LEN, GUARD_BYTE, GUARD_LEN);
+    memset(s->bytes + s->len, GUARD_BYTE, GUARD_LEN);
+}
+
+static void see_guards(const slice *s)
+{
+    uint8_t guard[GUARD_LEN];
+
+    memset(guard, GUARD_BYTE, GUARD_LEN);
+    if (memcmp(s->bytes - GUARD_LEN, guard, GUARD_LEN) != 0) {
+        fail("a byte before the lent buffer was changed");
+    }
+    if (memcmp(s->bytes + s->len, guard, GUARD_LEN) != 0) {
+        fail("a byte after the lent buffer was changed");
+    }
+}
+
 static void give(const void *from, size_t len)
 {
-    if (fwrite(from, 1, len, stdout) != len || fflush(stdout) != 0) {
+    if (len != 0 && fwrite(from, 1, len, stdout) != len) {
         exit(2);
     }
 }
@@ -54,6 +94,22 @@ static void check(void)
     give(&verdict, sizeof verdict);
 }
 
+static void statement(void)
+{
+    static slice book, buffer;
+    uint32_t account;
+    fervolatro_written written;
+
+    take_slice(&book);
+    take(&account, sizeof account);
+    take_slice(&buffer);
+    set_guards(&buffer);
+    written = fervolatro_statement(book.bytes, book.len, account, buffer.bytes, buffer.len);
+    see_guards(&buffer);
+    give(&written, sizeof written);
+    give(buffer.bytes, buffer.len);
+}
+
 int main(void)
 {
     int call;
@@ -63,8 +119,13 @@ int main(void)
         case 'c':
             check();
             break;
+        case 's':
+            statement();
+            break;
         default:
-            fputs("bridge: no such call\n", stderr);
+            fail("no such call");
+        }
+        if (fflush(stdout) != 0) {
             return 2;
         }
     }

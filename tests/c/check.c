@@ -6,12 +6,20 @@
 #include <inttypes.h>
 #include <stdio.h>
 #include <stdlib.h>
+#include <string.h>
 
 #include "fervolatro.h"
 
 /* The worked book: header and entries 84, a constraint 40, five unit rows of
  * 20, two energy rows of 24. */
 enum { WORKED_LEN = 84 + 40 + 5 * 20 + 2 * 24, USAGE_AT = 84 + 24 };
+
+/* Account 7's statement of it: a header and twelve lines of 24. */
+enum {
+    STATEMENT_LEN = 24 + 12 * 24,
+    ROOM = STATEMENT_LEN + 24,
+    UNTOUCHED = 0xA5
+};
 
 static int failures = 0;
 
@@ -47,6 +55,47 @@ static void read_worked(const char *path, uint8_t book[WORKED_LEN + 1])
     }
 }
 
+/* Lends the first buffer_len bytes of a buffer, and expects the front of it to
+ * be what is given and every later byte untouched. */
+static void expect_statement(const char *name, const uint8_t *book,
+                             uint32_t account, size_t buffer_len,
+                             uint64_t refusal, const uint8_t *front,
+                             size_t front_len)
+{
+    uint64_t length = refusal == 0 ? STATEMENT_LEN : 0;
+    uint8_t buffer[ROOM];
+    fervolatro_written got;
+    size_t at;
+    int differs;
+
+    memset(buffer, UNTOUCHED, ROOM);
+    got = fervolatro_statement(book, WORKED_LEN, account, buffer, buffer_len);
+    differs = memcmp(buffer, front, front_len) != 0;
+    for (at = (size_t)length; at < ROOM; at++) {
+        differs |= buffer[at] != UNTOUCHED;
+    }
+    if (got.refusal != refusal || got.place != 0 || got.length != length
+        || differs) {
+        fprintf(stderr,
+                "%s: expected %" PRIu64 ", got %" PRIu64 " at %" PRIu64
+                ", length %" PRIu64 "%s\n",
+                name, refusal, got.refusal, got.place, got.length,
+                differs ? ", other bytes in the buffer" : "");
+        failures++;
+    }
+}
+
+/* The statement of account 7 in the worked book, its header and its first line:
+ * unit 1's FPP of 59.1300 dollars, 591,300 = 0x0905C4. */
+static const uint8_t FRONT[48] = {
+    'R', 'C', 'S', 0, 1, 0, 1, 0,      /* mark, version 1, interval 1 */
+    0xF0, 0xFF, 0x34, 1, 1, 0, 12, 0,  /* date 20,250,608, run 1, 12 lines */
+    7, 0, 0, 0, 0, 0, 0, 0,            /* account 7 */
+    0xF4, 1, 0, 0, 3, 1, 0, 0,         /* id 500, part 3, regions 1 */
+    1, 0, 0, 0, 0, 0, 0, 0,            /* unit 1 */
+    0xC4, 0x05, 9, 0, 0, 0, 0, 0,      /* amount 591,300 */
+};
+
 int main(int argc, char **argv)
 {
     uint8_t book[WORKED_LEN + 1] = {0};
@@ -62,6 +111,13 @@ int main(int argc, char **argv)
     expect("the worked book", book, WORKED_LEN, 0, 0);
     expect("one byte short", book, WORKED_LEN - 1, 4, 0);
     expect("one byte long", book, WORKED_LEN + 1, 4, 0);
+
+    expect_statement("account 7", book, 7, STATEMENT_LEN, 0, FRONT,
+                     sizeof FRONT);
+    expect_statement("account 7, room to spare", book, 7, ROOM, 0, FRONT,
+                     sizeof FRONT);
+    expect_statement("room one short", book, 7, STATEMENT_LEN - 1, 13, FRONT, 0);
+    expect_statement("account 8", book, 8, STATEMENT_LEN, 11, FRONT, 0);
 
     /* Usage 400,000 is 0x00061A80; with a high byte of 1 it passes 1,000,000. */
     book[USAGE_AT + 3] = 1;

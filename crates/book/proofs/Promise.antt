@@ -11,7 +11,7 @@ use Rattle.sections.specs.Refusal.{firstOf}
 use Rattle.sections.specs.Total.{totalOf, keyed}
 use Rattle.sections.specs.declared.Verdict.the-variants.{Accepted}
 use Rattle.sections.proofs.Refusal.{first-held, record-held, unless-held}
-use Rattle.sections.proofs.Total.{total-mono}
+use Rattle.sections.proofs.Total.{total-under}
 use Rattle.records.specs.declared.rows.EnergyRow.{EnergyRow}
 use Rattle.factors.proofs.Said.{owner-of, whole-of, plain-of}
 use Rattle.totals.specs.Sums.{regionOf, aceOf, asoeOf, residualOf, SumsTo}
@@ -37,7 +37,7 @@ own-part false b x = omega arith
 own-within : (B : Book) (account g : ℕ) (f : EnergyRow → ℕ) → ownIn B account g f ≤ totalOf (regionOf (B .energy)) g (λ i. f (B .energy i)) (B .header .energies)
 unfolding ownIn keyed
 own-within B account g f =
-    total-mono _ _ (B .header .energies) (λ i. own-part (eqb (B .energy i .account) account) (eqb (B .energy i .region) g) (f (B .energy i)))
+    total-under _ _ (B .header .energies) (λ i l. own-part (eqb (B .energy i .account) account) (eqb (B .energy i .region) g) (f (B .energy i)))
 
 own-of : (B : Book) → ((g : ℕ) → g < 5 → SumsTo (B .entry g) (totalOf (regionOf (B .energy)) g (aceOf (B .energy)) (B .header .energies)) (totalOf (regionOf (B .energy)) g (asoeOf (B .energy)) (B .header .energies)) (totalOf (regionOf (B .energy)) g (residualOf (B .energy)) (B .header .energies))) → (account g : ℕ) → g < 5 → Within (B .entry g) (ownIn B account g (λ r. r .ace)) (ownIn B account g (λ r. r .asoe)) (ownIn B account g (λ r. r .race + r .rasoe))
 own-of B s account g l =

@@ -1,7 +1,7 @@
 -- What a loop that adds one record after the other needs to know of the sum, and sums over the records of one key.
 -- Assumes nothing.
 use Prim.Native.Nat.{ℕ, zero, suc, _+_, _*_, _≤_, _<_}
-use mathlib.Core.Path.{_≡_, refl}
+use mathlib.Core.Path.{_≡_, refl, sym}
 use mathlib.Core.Bool.{Bool, true, false, cond, _&&_}
 use mathlib.Core.Logic.{⊎-elim}
 use borrow.Author.Tests.{eq-eqb, ne-eqb}
@@ -55,11 +55,29 @@ module _ (f : ℕ → ℕ) where
       (λ (j : i < suc n). rw (h n (le-of-suc-le-suc j) (le-refl (suc n)), add-zero) (total-rest i n (le-of-suc-le-suc j) (λ k a b. h k a (omega arith))))
       (eq-or-lt-of-le l)
 
--- where each number is at most another, so are their sums
-pub total-mono : (f g : ℕ → ℕ) (n : ℕ) → ((k : ℕ) → f k ≤ g k) → total f n ≤ total g n
+-- where each of the first n numbers is at most another, so are their sums
+pub total-under : (f g : ℕ → ℕ) (n : ℕ) → ((k : ℕ) → k < n → f k ≤ g k) → total f n ≤ total g n
 unfolding total
-total-mono f g zero h = omega arith
-total-mono f g (suc n) h = omega (arith, total-mono f g n h, h n)
+total-under f g zero h = omega arith
+total-under f g (suc n) h = omega (arith, total-under f g n (λ k l. h k (omega arith)), h n (le-refl (suc n)))
+
+-- and where they are equal
+pub total-same : (f g : ℕ → ℕ) (n : ℕ) → ((k : ℕ) → k < n → f k ≡ g k) → total f n ≡ total g n
+unfolding total
+total-same f g zero h = refl
+total-same f g (suc n) h = rw (total-same f g n (λ k l. h k (omega arith)), h n (le-refl (suc n)))
+
+-- two numbers for each record, summed together or each alone
+pub total-plus : (f g : ℕ → ℕ) (n : ℕ) → total (λ k. f k + g k) n ≡ total f n + total g n
+unfolding total
+total-plus f g zero = refl
+total-plus f g (suc n) = omega (arith, total-plus f g n)
+
+-- a table's numbers, summed row by row or column by column
+pub total-swap : (f : ℕ → ℕ → ℕ) (m n : ℕ) → total (λ j. total (λ u. f j u) m) n ≡ total (λ u. total (λ j. f j u) n) m
+unfolding total
+total-swap f m zero = total-zero (λ u. 0) m (λ k l. refl)
+total-swap f m (suc n) = rw (total-swap f m n) (sym (total-plus (λ u. total (λ j. f j u) n) (λ u. f n u) m))
 
 -- a sum is 0 exactly where both numbers are
 pub sum-nil : (a b : ℕ) → eqb (a + b) 0 ≡ eqb a 0 && eqb b 0

@@ -18,7 +18,8 @@ pub struct Totals {
     pub residual: [u64; 5],
 }
 
-fn bump(a: &mut [u64; 5], g: usize, x: u64)
+// One more number in region g's sum.
+pub fn bump(a: &mut [u64; 5], g: usize, x: u64)
     requires { ⌜ (g < 5) × ((getD (now a) g 0 ≤ 50000000000) × (x ≤ 40000000)) ⌝ }
     ensures { λ _. ⌜ now (a .exit) ≡ set (now (a .entry)) g (getD (now (a .entry)) g 0 + x) ⌝ }
 {

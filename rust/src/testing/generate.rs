@@ -7,6 +7,7 @@
 
 use crate::book::{Book, Constraint, Contract, EnergyRow, Header, RegionEntry, UnitRow};
 use crate::testing::random::Random;
+use crate::testing::worked::energy_row;
 
 const ENERGY_LIMIT: i64 = 20_000_000;
 const MONEY_LIMIT: i64 = 50_000_000_000;
@@ -82,6 +83,43 @@ pub fn accepted_book(random: &mut Random, sizes: Sizes) -> Book {
     book
 }
 
+/// An accepted book with the longest statement there is, of 51,672 bytes, and the
+/// account that gets it: all constraints are factored, all units the account's,
+/// and all contracts benefit every region.
+pub fn book_of_longest_statement(random: &mut Random) -> (Book, u32) {
+    let Sizes {
+        constraints,
+        units,
+        contracts,
+        ..
+    } = Sizes::LARGEST;
+    let mut book = Book {
+        header: header(random),
+        ..Book::default()
+    };
+    let places = [(7, 0), (7, 1), (7, 2), (7, 3), (7, 4), (9, 0), (9, 4)];
+    book.energies.extend(places.map(|(account, region)| {
+        let [ace, asoe] = [0; 2].map(|_: i64| random.between(1, ENERGY_LIMIT / 4) as i32);
+        energy_row(account, region, [-ace, asoe, -ace, asoe])
+    }));
+    book.total_regions();
+    let modes = vec![1; constraints];
+    let shares = unit_shares(random, &modes, units);
+    for (id, share) in (1..).zip(shares) {
+        let mut constraint = constraint(random, id, 1);
+        constraint.regions = random.between(1, 31) as u8;
+        book.units.extend(unit_rows(random, &mut constraint, share));
+        book.constraints.push(constraint);
+    }
+    book.units.iter_mut().for_each(|row| row.account = 7);
+    for id in (1..).take(contracts) {
+        let mut contract = contract(random, id, &book.regions, 0);
+        contract.factors = [1, 199_999, 200_000, 250_000, 350_000];
+        book.contracts.push(contract);
+    }
+    (book, 7)
+}
+
 /// Every month has 28 days; the other dates have tests of their own.
 fn header(random: &mut Random) -> Header {
     let year = random.edged(2025, 2099);
@@ -122,7 +160,7 @@ fn lift(random: &mut Random, last: u32) -> u32 {
 }
 
 /// Splits a total into so many parts, none of them negative.
-fn split(random: &mut Random, total: i64, parts: usize) -> Vec<i64> {
+pub(super) fn split(random: &mut Random, total: i64, parts: usize) -> Vec<i64> {
     let mut left = total;
     let mut shares = Vec::with_capacity(parts);
     for still in (1..=parts as i64).rev() {
@@ -267,7 +305,7 @@ fn unit_rows(random: &mut Random, constraint: &mut Constraint, count: usize) -> 
         return Vec::new();
     }
     let mut factors = match constraint.mode {
-        1 => balanced(random, count + 1),
+        1 => balanced(random, WHOLE, count + 1),
         _ => vec![0; count + 1],
     };
     let mut defaults = split(random, WHOLE, count + 1);
@@ -286,11 +324,11 @@ fn unit_rows(random: &mut Random, constraint: &mut Constraint, count: usize) -> 
 }
 
 /// Two or more factors that add to 0, the negative ones to minus one whole.
-fn balanced(random: &mut Random, count: usize) -> Vec<i64> {
+pub(super) fn balanced(random: &mut Random, whole: i64, count: usize) -> Vec<i64> {
     let negative = 1 + random.below(count - 1);
-    let mut factors = split(random, WHOLE, negative);
+    let mut factors = split(random, whole, negative);
     factors.iter_mut().for_each(|factor| *factor = -*factor);
-    factors.extend(split(random, WHOLE, count - negative));
+    factors.extend(split(random, whole, count - negative));
     random.shuffle(&mut factors);
     factors
 }

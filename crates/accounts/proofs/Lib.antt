@@ -1,0 +1,4 @@
+pub mod Joined
+pub mod Lists
+pub mod Turns
+pub mod Own

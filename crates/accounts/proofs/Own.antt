@@ -1,0 +1,72 @@
+-- What was found over a book's rows, said of the account's own rows; and in an accepted book its energy is at most its region's.
+-- Assumes nothing.
+use Prim.Native.Nat.{ℕ, _+_, _<_}
+use mathlib.Core.Path.{_≡_, refl}
+use mathlib.Core.Bool.{Bool, true, false, cond, not, _&&_}
+use native.Mathlib.Omega.{arith}
+use lib.Dec.{eqb}
+use Rattle.records.specs.Facts.{EntryRule}
+use Rattle.records.specs.declared.rows.EnergyRow.{EnergyRow}
+use Rattle.amounts.specs.Own.{ownEntry}
+use Rattle.book.specs.Book.{Book}
+use Rattle.book.specs.Accepted.{ownIn, Within, Promise}
+use Rattle.accounts.specs.Rows.{rowsOf, keep, sumOf, none}
+use Rattle.accounts.specs.Account.{rowsOfAccount, ownEnergy, unknown}
+use Rattle.accounts.specs.Held.{HeldIs}
+use Rattle.accounts.specs.declared.Held.{Held}
+use Rattle.accounts.proofs.Lists.{total-rows}
+
+both : (a b : Bool) (x : ℕ) → cond (a && b) x 0 ≡ cond a (cond b x 0) 0
+both true b x = refl
+both false b x = refl
+
+-- the sum by index is the sum over the account's rows
+pub own-in : (B : Book) (account g : ℕ) (f : EnergyRow → ℕ) → ownIn B account g f ≡ sumOf (λ r. cond (eqb (r .region) g) (f r) 0) (rowsOfAccount B account .energies)
+unfolding ownIn rowsOfAccount
+own-in B account g f =
+    total-rows (B .energy) (λ r. eqb (r .account) account) (λ r. cond (eqb (r .region) g) (f r) 0) _
+    (λ i. both (eqb (B .energy i .account) account) (eqb (B .energy i .region) g) (f (B .energy i)))
+    (B .header .energies)
+
+module _ {B : Book} (h : Promise B) (account g : ℕ) where
+  pub own-within : g < 5 → Within (B .entry g) (ownEnergy (rowsOfAccount B account .energies) g .ace) (ownEnergy (rowsOfAccount B account .energies) g .asoe) (ownEnergy (rowsOfAccount B account .energies) g .residual)
+  unfolding ownEnergy
+  own-within l =
+      let w = h .own account g l in
+      record {
+        ace = rw (← own-in B account g (λ r. r .ace)) (w .ace);
+        asoe = rw (← own-in B account g (λ r. r .asoe)) (w .asoe);
+        residual = rw (← own-in B account g (λ r. r .race + r .rasoe)) (w .residual);
+      }
+
+  -- so it keeps an entry's rule
+  pub own-rule : g < 5 → EntryRule (ownEnergy (rowsOfAccount B account .energies) g)
+  own-rule l =
+      let w = own-within l in
+      let e = h .fields .entries g l in
+      record {
+        ace = omega (arith, w .ace, e .ace);
+        asoe = omega (arith, w .asoe, e .asoe);
+        residual = omega (arith, w .residual, e .residual);
+      }
+
+-- ---- what was found
+
+module _ (B : Book) {account : ℕ} {h : Held} (f : HeldIs (B .energy) (B .header .energies) account h) where
+  -- the energy is that of the account's rows
+  pub held-own : (g : ℕ) → g < 5 → ownEntry (h .own) g ≡ ownEnergy (rowsOfAccount B account .energies) g
+  unfolding rowsOfAccount
+  held-own g l = f .own g l
+
+  pub held-rule : Promise B → (g : ℕ) → g < 5 → EntryRule (ownEntry (h .own) g)
+  held-rule p g l = rw (held-own g l) (own-rule p account g l)
+
+  -- 11: neither a unit row nor an energy row was found
+  pub held-unknown : {u : Bool} → u ≡ not (none (keep (λ r. eqb (r .account) account) (rowsOf (B .unit) (B .header .units)))) → not u && not (h .any) ≡ unknown (rowsOfAccount B account)
+  unfolding rowsOfAccount
+  held-unknown e = rw (e, f .any) (by (none (rowsOfAccount B account .units)) (none (rowsOfAccount B account .energies)))
+    where
+      by : (a b : Bool) → not (not a) && not (not b) ≡ a && b
+      by true true = refl
+      by true false = refl
+      by false b = refl

@@ -1,0 +1,57 @@
+-- What a statement may depend on: the public part of a book, and an account's own rows.
+use Prim.Native.Nat.{ℕ, _+_}
+use mathlib.Core.Bool.{_&&_, Bool, cond}
+use mathlib.Core.List.{List}
+use lib.Dec.{eqb}
+use Rattle.records.specs.declared.rows.Entry.{Entry}
+use Rattle.records.specs.declared.rows.Constraint.{Constraint}
+use Rattle.records.specs.declared.rows.UnitRow.{UnitRow}
+use Rattle.records.specs.declared.rows.EnergyRow.{EnergyRow}
+use Rattle.records.specs.declared.rows.Contract.{Contract}
+use Rattle.book.specs.Book.{Book}
+use Rattle.accounts.specs.Rows.{rowsOf, keep, sumOf, none}
+
+-- "date, interval, run, region totals, constraints, contracts"
+pub record Public : Type 0 where
+  pub date : ℕ
+  pub interval : ℕ
+  pub run : ℕ
+  pub entries : List Entry
+  pub constraints : List Constraint
+  pub contracts : List Contract
+
+-- "one account's own energy and unit rows"
+pub record Rows : Type 0 where
+  pub energies : List EnergyRow
+  pub units : List UnitRow
+
+unfoldable pub publicOf : Book → Public
+publicOf B =
+    record {
+      date = B .header .date;
+      interval = B .header .interval;
+      run = B .header .run;
+      entries = rowsOf (B .entry) 5;
+      constraints = rowsOf (B .constraint) (B .header .constraints);
+      contracts = rowsOf (B .contract) (B .header .contracts);
+    }
+
+unfoldable pub rowsOfAccount : Book → ℕ → Rows
+rowsOfAccount B account =
+    record {
+      energies = keep (λ r. eqb (r .account) account) (rowsOf (B .energy) (B .header .energies));
+      units = keep (λ r. eqb (r .account) account) (rowsOf (B .unit) (B .header .units));
+    }
+
+-- an account's own energy in region g, put as a region's entry is. "Missing energy rows count as 0."
+unfoldable pub ownEnergy : List EnergyRow → ℕ → Entry
+ownEnergy rows g =
+    record {
+      ace = sumOf (λ r. cond (eqb (r .region) g) (r .ace) 0) rows;
+      asoe = sumOf (λ r. cond (eqb (r .region) g) (r .asoe) 0) rows;
+      residual = sumOf (λ r. cond (eqb (r .region) g) (r .race + r .rasoe) 0) rows;
+    }
+
+-- 11: "no unit row and no energy row names the account"
+abbrev pub unknown : Rows → Bool
+unknown rows = none (rows .units) && none (rows .energies)

@@ -1,0 +1,35 @@
+-- What an account holds, as it is found by going over the energy rows. Only contracts of inner functions and the layer above speak of it.
+use Prim.Native.Nat.{ℕ, _+_, _≤_, _<_}
+use mathlib.Core.Path.{_≡_}
+use mathlib.Core.Bool.{Bool, cond, not}
+use mathlib.Core.List.{List}
+use lib.Dec.{eqb}
+use lib.ListN.{getD, set}
+use Rattle.records.specs.declared.rows.EnergyRow.{EnergyRow}
+use Rattle.amounts.specs.declared.own.Own.{Own}
+use Rattle.amounts.specs.Own.{ownEntry}
+use Rattle.accounts.specs.declared.Held.{Held}
+use Rattle.accounts.specs.Rows.{rowsOf, keep, none}
+use Rattle.accounts.specs.Account.{ownEnergy}
+
+-- the energy of the account's rows among the first n, region by region, and whether there is one
+pub record HeldIs (energy : ℕ → EnergyRow) (n account : ℕ) (h : Held) : Type 0 where
+  pub own : (g : ℕ) → g < 5 → ownEntry (h .own) g ≡ ownEnergy (keep (λ r. eqb (r .account) account) (rowsOf energy n)) g
+  pub any : h .any ≡ not (none (keep (λ r. eqb (r .account) account) (rowsOf energy n)))
+
+-- the sums of a region are so small that one row more fits
+pub record Low (o : Own) (g : ℕ) : Type 0 where
+  pub ace : getD (o .ace) g 0 ≤ 50000000000
+  pub asoe : getD (o .asoe) g 0 ≤ 50000000000
+  pub residual : getD (o .residual) g 0 ≤ 50000000000
+
+-- x more at place g where t says so
+unfoldable pub plus : Bool → List ℕ → ℕ → ℕ → List ℕ
+plus t l g x = cond t (set l g (getD l g 0 + x)) l
+
+-- row r added to the sums o where it is the account's, and whether it is
+pub record Added (r : EnergyRow) (account : ℕ) (o x : Own) (b : Bool) : Type 0 where
+  pub ace : x .ace ≡ plus (eqb (r .account) account) (o .ace) (r .region) (r .ace)
+  pub asoe : x .asoe ≡ plus (eqb (r .account) account) (o .asoe) (r .region) (r .asoe)
+  pub residual : x .residual ≡ plus (eqb (r .account) account) (o .residual) (r .region) (r .race + r .rasoe)
+  pub mine : b ≡ eqb (r .account) account

@@ -1,0 +1,77 @@
+-- Every pool, residual pool and half of an accepted book is at most 50,000,000,000, so that every product fits. Assumes nothing.
+use Prim.Native.Nat.{ℕ, _+_, _-_, _*_, _/_, _≤_, _<_}
+use mathlib.Core.Path.{_≡_, sym, _∙_}
+use mathlib.Core.Bool.{Bool, true, false, cond}
+use lib.Dec.{eqb}
+use native.Mathlib.Omega.{arith}
+use Rattle.ground.specs.Round.{roundN}
+use Rattle.ground.proofs.Rounding.{round-share, half-below}
+use Rattle.records.specs.Kinds.{modeWith}
+use Rattle.records.specs.Rules.{modeOf}
+use Rattle.records.specs.Facts.{ConstraintRule}
+use Rattle.records.specs.declared.kinds.Mode.{Mode}
+use Rattle.records.specs.declared.kinds.Mode.the-variants.{Contingency, Factored, Default, Unknown}
+use Rattle.records.specs.declared.rows.Constraint.{Constraint}
+use Rattle.amounts.specs.Pools.{poolsIn, poolsOf, residualOf, halvesOf}
+use Rattle.amounts.specs.Bounds.{SmallPools, SmallResidual, SmallHalves}
+use Rattle.amounts.specs.declared.pools.Pools.{Pools}
+
+-- the data of a factored mode are in range
+pub record InRange (price response usage : ℕ) : Type 0 where
+  pub product : price * response ≤ 6000000000000
+  pub used : usage ≤ 1000000
+
+abbrev DataOf : Mode → Type 0
+DataOf Contingency = Unit
+DataOf (Factored p s u) = InRange p s u
+DataOf Default = Unit
+DataOf Unknown = Unit
+
+data-of : (r : Constraint) → ConstraintRule r → DataOf (modeOf r)
+unfolding modeWith
+data-of r h = by (eqb (r .mode) 0) (eqb (r .mode) 1) (eqb (r .mode) 2)
+  where
+    by : (x y z : Bool) → DataOf (cond x Contingency (cond y (Factored (r .price) (r .rcr) (r .usage)) (cond z Default Unknown)))
+    by true y z = tt
+    by false true z = record { product = h .terms .product; used = h .terms .usage }
+    by false false true = tt
+    by false false false = tt
+
+-- what a mode found to be factored holds
+pub data-in : (r : Constraint) {m : Mode} {p s u : ℕ} → ConstraintRule r → m ≡ modeOf r → m ≡ Factored p s u → InRange p s u
+data-in r h e f = rw (sym e ∙ f) at (data-of r h)
+
+-- a rounded 120th of 6,000,000,000,000
+fpp-small : (n : ℕ) → n ≤ 6000000000000 → roundN n 120 ≤ 50000000000
+fpp-small n l = omega (arith, half-below n 120 (omega arith))
+
+pub pools-small : (r : Constraint) → ConstraintRule r → SmallPools (poolsOf r)
+unfolding poolsIn
+pools-small r h = by (modeOf r) (data-of r h)
+  where
+    by : (m : Mode) → DataOf m → SmallPools (poolsIn (r .cost) m)
+    by Contingency d = record { fpp = omega arith; used = omega arith; unused = h .cost }
+    by (Factored p s u) d =
+        record {
+          fpp = fpp-small (p * s) (d .product);
+          used = omega (arith, round-share (r .cost) u 1000000 (d .used), h .cost);
+          unused = omega (arith, h .cost);
+        }
+    by Default d = record { fpp = omega arith; used = omega arith; unused = h .cost }
+    by Unknown d = record { fpp = omega arith; used = omega arith; unused = h .cost }
+
+pub residual-small : (r : Constraint) (p : Pools) → ConstraintRule r → SmallPools p → SmallResidual (residualOf r p)
+unfolding residualOf
+residual-small r p h s =
+    record {
+      credit = omega (arith, round-share (p .fpp) (r .plus) 1000000 (h .plus), s .fpp);
+      charge = omega (arith, round-share (p .fpp) (r .minus) 1000000 (h .minus), s .fpp);
+      used = omega (arith, round-share (p .used) (r .minus) 1000000 (h .minus), s .used);
+      unused = omega (arith, round-share (p .unused) (r .drcf) 1000000 (h .drcf), s .unused);
+    }
+
+pub halves-small : (payment factor : ℕ) → payment ≤ 50000000000 → factor ≤ 1000000 → SmallHalves (halvesOf payment factor)
+unfolding halvesOf
+halves-small payment factor l m =
+    let h = round-share payment factor 1000000 m in
+    record { consumed = omega arith; sent = omega arith }

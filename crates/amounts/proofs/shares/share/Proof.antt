@@ -1,0 +1,18 @@
+-- `amounts::shares::share` meets its contract. The product fits, since a pool is at most 50,000,000,000 and a total at most 100,000,000. Assumes nothing.
+use native.Mathlib.Omega.{arith}
+use native.Mathlib.Nat.{mul-le-mul}
+use borrow.Author.Needs.{needs}
+use Rattle.amounts.proofs.shares.share.Statement.{statement}
+use Rattle.amounts.proofs.shares.share.Tie as tie
+
+mul-nearest : tie.Need-mul-nearest
+mul-nearest c = omega (arith, mul-le-mul {n₁ = c .args .pool} {m₁ = c .args .own} {n₂ = 50000000000} {m₂ = 100000000} (c .pre .0) (omega arith))
+
+nearest-requires : tie.Need-nearest-requires
+nearest-requires c κs = search needs
+
+returns : tie.Need-returns
+returns c = search needs
+
+pub share-spec : {M : Type 1} → statement M
+share-spec = tie.close (tie.spec mul-nearest nearest-requires returns)

@@ -1,0 +1,4 @@
+pub mod Shares
+pub mod Pools
+pub mod Bounds
+pub mod Own

@@ -1,0 +1,46 @@
+-- What a constraint or a contract has to recover. 01, The amounts.
+use Prim.Native.Nat.{ℕ, _+_, _-_, _*_, _/_}
+use Rattle.ground.specs.Round.{roundN}
+use Rattle.records.specs.Rules.{modeOf}
+use Rattle.records.specs.declared.kinds.Mode.{Mode}
+use Rattle.records.specs.declared.kinds.Mode.the-variants.{Contingency, Factored, Default, Unknown}
+use Rattle.records.specs.declared.rows.Constraint.{Constraint}
+use Rattle.amounts.specs.declared.pools.Pools.{Pools}
+use Rattle.amounts.specs.declared.pools.Residual.{Residual}
+use Rattle.amounts.specs.declared.pools.Halves.{Halves}
+
+-- "Mode 2: all unused."
+abbrev pub allUnused : ℕ → Pools
+allUnused cost = record { fpp = 0; used = 0; unused = cost }
+
+-- "used = round(cost x usage / 1,000,000); unused = cost - used." "FPP pool = round(price x RCR / 120)."
+unfoldable pub poolsIn : ℕ → Mode → Pools
+poolsIn cost Contingency = allUnused cost
+poolsIn cost (Factored price response usage) =
+    record {
+      fpp = roundN (price * response) 120;
+      used = roundN (cost * usage) 1000000;
+      unused = cost - roundN (cost * usage) 1000000;
+    }
+poolsIn cost Default = allUnused cost
+poolsIn cost Unknown = allUnused cost
+
+abbrev pub poolsOf : Constraint → Pools
+poolsOf r = poolsIn (r .cost) (modeOf r)
+
+-- "Residual pools are made the same way, from RCF, min(0, RCF), DRCF."
+unfoldable pub residualOf : Constraint → Pools → Residual
+residualOf r p =
+    record {
+      credit = roundN (p .fpp * r .plus) 1000000;
+      charge = roundN (p .fpp * r .minus) 1000000;
+      used = roundN (p .used * r .minus) 1000000;
+      unused = roundN (p .unused * r .drcf) 1000000;
+    }
+
+-- "r = round(payment x factor / 1,000,000). The consumed half is r / 2, an odd r rounded up; the sent-out half is the rest."
+abbrev pub halve : ℕ → Halves
+halve r = record { consumed = (r + 1) / 2; sent = r - (r + 1) / 2 }
+
+unfoldable pub halvesOf : ℕ → ℕ → Halves
+halvesOf payment factor = halve (roundN (payment * factor) 1000000)

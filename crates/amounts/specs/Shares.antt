@@ -1,0 +1,14 @@
+-- A rounded part of a pool. A number with a sign is held as what is credited less what is charged, of which one is 0; rounding keeps the
+-- sign, so each side is rounded by its size (proofs/Signed.antt has the law over signed numbers).
+use Prim.Native.Nat.{ℕ, _*_}
+use lib.IntN.{ℤ}
+use Rattle.ground.specs.Round.{roundN}
+use Rattle.ground.specs.Sign.{less}
+
+-- "round(pool x factor / 1,000,000)", where the factor is plus - minus
+unfoldable pub byFactor : ℕ → ℕ → ℕ → ℤ
+byFactor pool plus minus = less (roundN (pool * plus) 1000000) (roundN (pool * minus) 1000000)
+
+-- "round(pool x own / total)", where the pool is credit - charge
+unfoldable pub byEnergy : ℕ → ℕ → ℕ → ℕ → ℤ
+byEnergy credit charge own total = less (roundN (credit * own) total) (roundN (charge * own) total)

@@ -1,0 +1,83 @@
+// What a constraint or a contract has to recover, before it is shared.
+ghost use mathlib.Core.Path.{_≡_};
+ghost use Prim.Native.Nat.{_≤_};
+ghost use Rattle.records.specs.Facts.{ConstraintRule};
+ghost use Rattle.amounts.specs.Pools.{poolsOf, residualOf, halvesOf};
+ghost use Rattle.amounts.specs.Bounds.{SmallPools};
+use crate::shares;
+use ground::round;
+use records::kinds::Mode;
+use records::rows::Constraint;
+
+// The three pools of a regulation constraint.
+pub struct Pools {
+    pub fpp: u64,
+    pub used: u64,
+    pub unused: u64,
+}
+
+// The residual's part of each pool, by its size. That of FPP is a credit or a charge; the others are charges.
+pub struct Residual {
+    pub credit: u64,
+    pub charge: u64,
+    pub used: u64,
+    pub unused: u64,
+}
+
+// The two halves of a contract's payment in one region.
+pub struct Halves {
+    pub consumed: u64,
+    pub sent: u64,
+}
+
+// Only a factored constraint's price, response and usage are read.
+pub fn pools_of(r: Constraint) -> Pools
+    requires { ⌜ ConstraintRule r ⌝ }
+    ensures { λ p. ⌜ p ≡ poolsOf r ⌝ }
+{
+    let mode = Mode::of(r.mode, r.price, r.rcr, r.usage);
+    let Mode::Factored {
+        price,
+        response,
+        usage,
+    } = mode
+    else {
+        return Pools {
+            fpp: 0,
+            used: 0,
+            unused: r.cost,
+        };
+    };
+    let used = shares::share(r.cost, usage as u64, 1000000);
+    Pools {
+        fpp: round::nearest((price as u64) * (response as u64), 120),
+        used,
+        unused: r.cost - used,
+    }
+}
+
+pub fn residual_of(r: Constraint, p: Pools) -> Residual
+    requires { ⌜ ConstraintRule r ⌝ }
+    requires { ⌜ SmallPools p ⌝ }
+    ensures { λ x. ⌜ x ≡ residualOf r p ⌝ }
+{
+    Residual {
+        credit: shares::share(p.fpp, r.plus as u64, 1000000),
+        charge: shares::share(p.fpp, r.minus as u64, 1000000),
+        used: shares::share(p.used, r.minus as u64, 1000000),
+        unused: shares::share(p.unused, r.drcf as u64, 1000000),
+    }
+}
+
+// The odd unit of money goes to the consumed half.
+pub fn halves_of(payment: u64, factor: u32) -> Halves
+    requires { ⌜ (payment ≤ 50000000000) × (factor ≤ 1000000) ⌝ }
+    ensures { λ x. ⌜ x ≡ halvesOf payment factor ⌝ }
+{
+    let part = shares::share(payment, factor as u64, 1000000);
+    let consumed = (part + 1) / 2;
+    Halves {
+        consumed,
+        sent: part - consumed,
+    }
+}

@@ -1,0 +1,44 @@
+// A rounded part of a pool, by a factor or by energy. What is credited and what is charged are rounded by their sizes, and the
+// signed amount is made once, here.
+ghost use mathlib.Core.Path.{_≡_};
+ghost use Prim.Native.Nat.{_*_, _≤_, _<_};
+ghost use Rattle.ground.specs.Round.{roundN};
+ghost use Rattle.ground.specs.Sign.{less};
+ghost use Rattle.amounts.specs.Shares.{byFactor, byEnergy};
+use ground::round;
+use ground::sign;
+
+// pool x own / total, to the nearest.
+pub fn share(pool: u64, own: u64, total: u64) -> u64
+    requires { ⌜ (pool ≤ 50000000000) × ((own ≤ total) × ((0 < total) × (total ≤ 100000000))) ⌝ }
+    ensures { λ r. ⌜ r ≡ roundN (pool * own) total ⌝ }
+{
+    round::nearest(pool * own, total)
+}
+
+// What is credited less what is charged.
+fn net(credit: u64, charge: u64) -> i64
+    requires { ⌜ (credit ≤ 50000000000) × (charge ≤ 50000000000) ⌝ }
+    ensures { λ r. ⌜ r ≡ less credit charge ⌝ }
+{
+    sign::plus(sign::signed(false, credit), sign::signed(true, charge))
+}
+
+// A unit's part of a pool: a positive factor credits, a negative one charges.
+pub fn by_factor(pool: u64, plus: u32, minus: u32) -> i64
+    requires { ⌜ (pool ≤ 50000000000) × ((plus ≤ 1000000) × (minus ≤ 1000000)) ⌝ }
+    ensures { λ r. ⌜ r ≡ byFactor pool plus minus ⌝ }
+{
+    net(
+        share(pool, plus as u64, 1000000),
+        share(pool, minus as u64, 1000000),
+    )
+}
+
+// An account's part of a pool by its energy. The pool itself is a credit or a charge.
+pub fn by_energy(credit: u64, charge: u64, own: u64, total: u64) -> i64
+    requires { ⌜ (credit ≤ 50000000000) × ((charge ≤ 50000000000) × ((own ≤ total) × ((0 < total) × (total ≤ 100000000)))) ⌝ }
+    ensures { λ r. ⌜ r ≡ byEnergy credit charge own total ⌝ }
+{
+    net(share(credit, own, total), share(charge, own, total))
+}

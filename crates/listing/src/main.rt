@@ -1,0 +1,118 @@
+// Reads four bytes of account and then a book from standard input, and lists the account's statement: its header, then each of its lines.
+// Where the book or the account is refused, it writes `refused N at PLACE`.
+use ground::read;
+use ground::sign;
+use libc::STDIN_FILENO;
+use libc::STDOUT_FILENO;
+use settlement::Written;
+ghost use Prim.Native.Nat.{_+_, _≤_};
+ghost use lib.ListN.{length};
+
+// A number, after the text that leads to it.
+fn show(text: &[u8], n: u64) {
+    io::write_all(STDOUT_FILENO, text);
+    io::print_decimal(STDOUT_FILENO, n);
+}
+
+// A number of one byte, after the text that leads to it.
+fn show_byte(text: &[u8], n: u8) {
+    show(text, n as u64);
+}
+
+// An amount in dollars, digit by digit behind the point, so that all four places stand there. Zero is not below zero and has no minus.
+fn show_dollars(amount: i64) {
+    if sign::is_negative(amount) {
+        io::write_all(STDOUT_FILENO, b"-");
+    }
+    let size = sign::size(amount);
+    io::print_decimal(STDOUT_FILENO, size / 10000);
+    show(b".", size / 1000 % 10);
+    io::print_decimal(STDOUT_FILENO, size / 100 % 10);
+    io::print_decimal(STDOUT_FILENO, size / 10 % 10);
+    io::print_decimal(STDOUT_FILENO, size % 10);
+}
+
+// The line that stands at a place of the statement: id, part, regions, unit, dollars.
+fn show_line(statement: &[u8], at: usize)
+    requires { ⌜ at + 24 ≤ length (now statement) ⌝ }
+{
+    io::print_decimal(STDOUT_FILENO, read::u32_at(statement, at) as u64);
+    show_byte(b" ", statement[at + 4]);
+    show_byte(b" ", statement[at + 5]);
+    show(b" ", read::u32_at(statement, at + 8) as u64);
+    io::write_all(STDOUT_FILENO, b" ");
+    show_dollars(read::i64_at(statement, at + 16));
+    io::write_all(STDOUT_FILENO, b"\n");
+}
+
+// The lines of a statement of `n` bytes: all that stands behind its header.
+fn show_lines(statement: &[u8], n: usize)
+    requires { ⌜ 24 ≤ n ⌝ }
+    requires { ⌜ n ≤ length (now statement) ⌝ }
+{
+    let mut at = 24;
+    while n - at >= 24 {
+        show_line(statement, at);
+        at += 24;
+    }
+}
+
+fn show_header(statement: &[u8])
+    requires { ⌜ 24 ≤ length (now statement) ⌝ }
+{
+    show(b"account ", read::u32_at(statement, 16) as u64);
+    show(b" date ", read::u32_at(statement, 8) as u64);
+    show(b" interval ", read::u16_at(statement, 6) as u64);
+    show(b" run ", read::u16_at(statement, 12) as u64);
+    show(b" lines ", read::u16_at(statement, 14) as u64);
+    io::write_all(STDOUT_FILENO, b"\n");
+}
+
+// The statement in the first `n` bytes of the buffer. Each has a header and lies in the buffer, so the two tests keep none back:
+// with them the program is safe whatever number it is answered.
+fn show_statement(buffer: &[u8], n: usize) {
+    if n < 24 {
+        return;
+    }
+    if n > buffer.len() {
+        return;
+    }
+    show_header(buffer);
+    show_lines(buffer, n);
+}
+
+fn show_refusal(number: u8, place: usize) {
+    show(b"refused ", number as u64);
+    show(b" at ", place as u64);
+    io::write_all(STDOUT_FILENO, b"\n");
+}
+
+// The buffer is longer than any statement (51,672 bytes), so refusal 13 is never written.
+fn list(account: u32, book: &[u8]) {
+    let mut buffer = io::large_buffer();
+    match settlement::statement(book, account, &mut buffer) {
+        Written::Length(n) => {
+            show_statement(&buffer, n);
+        }
+        Written::Refused(number, place) => {
+            show_refusal(number, place);
+        }
+    }
+}
+
+// Fewer than four bytes count as account 0 and an empty book.
+fn list_input(input: &[u8]) {
+    if input.len() < 4 {
+        list(0, b"");
+        return;
+    }
+    list(read::u32_at(input, 0), &input[4..]);
+}
+
+// The buffer is longer than an account and any book (39,796 bytes). Of longer input the part that fits is refused by 2, 3 or 4, as
+// all of it would be.
+fn main() {
+    let mut input = io::large_buffer();
+    let n = io::read_full(STDIN_FILENO, &mut input);
+    list_input(&input[..n]);
+}

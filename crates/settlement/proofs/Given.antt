@@ -1,0 +1,105 @@
+-- What an accepted book gives to the walk over it, where the account's own energy is part of each region's. Assumes nothing.
+use Prim.Native.Nat.{ℕ, _≤_, _<_}
+use mathlib.Core.Path.{_≡_, sym, ap, _∙_}
+use mathlib.Core.Bool.{Bool, true, false, cond}
+use mathlib.Core.Logic.{⊎-elim}
+use native.Mathlib.Omega.{arith}
+use native.Mathlib.Nat.{le-trans, eq-or-lt-of-le}
+use Rattle.sections.specs.Order.{Rises}
+use Rattle.sections.proofs.Total.{total-bound, total-under}
+use Rattle.sections.proofs.Search.{lt-or-ge}
+use Rattle.records.specs.Kinds.{raises, regulates, bitSet}
+use Rattle.records.specs.Facts.{EntryRule}
+use Rattle.records.specs.declared.rows.Entry.{Entry}
+use Rattle.records.specs.declared.rows.Constraint.{Constraint}
+use Rattle.factors.specs.Naming.{idOf, keyOf}
+use Rattle.factors.proofs.Said.{names-of}
+use Rattle.totals.specs.Divisors.{basisOf, shareOf, divisorOf}
+use Rattle.totals.proofs.Turns.{share-small}
+use Rattle.book.specs.Book.{Book}
+use Rattle.book.specs.Accepted.{Within, Promise}
+use Rattle.amounts.specs.Own.{ownEntry}
+use Rattle.amounts.specs.declared.own.Own.{Own}
+use Rattle.lines.specs.Lines.{Shared}
+use Rattle.settlement.specs.Walks.{Ready, Payable}
+
+-- ---- order
+
+-- numbers that rise are each at one place only
+pub rises-once : (f : ℕ → ℕ) (n : ℕ) → Rises f n → (i j : ℕ) → i < n → j < n → f i ≡ f j → i ≡ j
+rises-once f n r i j a b e =
+    ⊎-elim
+    (λ (l : i < j). absurd (apart (f i) (f j) (r .rise i j l b) e))
+    (λ (l : j ≤ i). ⊎-elim (λ (q : j ≡ i). sym q) (λ (k : j < i). absurd (apart (f j) (f i) (r .rise j i k a) (sym e))) (eq-or-lt-of-le l))
+    (lt-or-ge i j)
+  where
+    apart : (x y : ℕ) → x < y → x ≡ y → ⊥
+    apart x y l q = omega arith
+
+-- ---- an account's energy in a region
+
+-- it is as small as the region's
+within-rule : (e x : Entry) → Within e (x .ace) (x .asoe) (x .residual) → EntryRule e → EntryRule x
+within-rule e x w h =
+    record {
+      ace = le-trans (w .ace) (h .ace);
+      asoe = le-trans (w .asoe) (h .asoe);
+      residual = le-trans (w .residual) (h .residual);
+    }
+
+-- and so is what a constraint counts of it
+within-share : (r : Constraint) (e x : Entry) (g : ℕ) → Within e (x .ace) (x .asoe) (x .residual) → shareOf r x g ≤ shareOf r e g
+unfolding shareOf basisOf
+within-share r e x g w = by (bitSet (r .mask) g) (regulates (r .service)) (raises (r .service))
+  where
+    by : (a b c : Bool) → cond a (cond b (x .residual) (cond c (x .asoe) (x .ace))) 0 ≤ cond a (cond b (e .residual) (cond c (e .asoe) (e .ace))) 0
+    by true true c = w .residual
+    by true false true = w .asoe
+    by true false false = w .ace
+    by false b c = omega arith
+
+-- ---- an accepted book
+
+module _ (B : Book) (h : Promise B) where
+  -- no unit row names a constraint of mode 0
+  pub bare-of : (j : ℕ) → j < B .header .constraints → B .constraint j .mode ≡ 0 → (u : ℕ) → u < B .header .units → keyOf (B .unit) u ≡ B .constraint j .id → ⊥
+  bare-of j l z u b e =
+      let o = h .owner u b in
+      let same = rises-once (idOf (B .constraint)) (B .header .constraints) (h .ordered .constraints) (o .place) j (o .within) l (o .same ∙ e) in
+      o .live (ap (λ i. B .constraint i .mode) same ∙ z)
+
+  module _ (own : Own) (own-within : (g : ℕ) → g < 5 → Within (B .entry g) (ownEntry own g .ace) (ownEntry own g .asoe) (ownEntry own g .residual)) where
+    -- the account's energy over a constraint's regions is part of a total that is not 0
+    pub shared-of : (j : ℕ) → j < B .header .constraints → Shared (divisorOf (ownEntry own) (B .constraint j)) (divisorOf (B .entry) (B .constraint j))
+    shared-of j l =
+        record {
+          part = total-under (λ g. shareOf (B .constraint j) (ownEntry own g) g) (λ g. shareOf (B .constraint j) (B .entry g) g) 5 (λ g b. within-share (B .constraint j) (B .entry g) (ownEntry own g) g (own-within g b));
+          above = h .divisor j l;
+          below = omega (arith, total-bound (λ g. shareOf (B .constraint j) (B .entry g) g) 20000000 5 (λ g b. share-small (B .constraint j) (B .entry g) g (h .fields .entries g b)));
+        }
+
+    -- all that settling its constraints rests on
+    pub ready-of : Ready (B .entry) (B .constraint) (B .header .constraints) (B .unit) (B .header .units) own
+    ready-of =
+        record {
+          rules = h .fields .constraints;
+          walked = record { few = h .few .units; rules = h .fields .units; keep = record { keep = h .ordered .units .first } };
+          rise = h .ordered .constraints;
+          names = names-of (B .constraint) (B .header .constraints) (B .unit) (B .header .units) (h .owner);
+          bare = bare-of;
+          entries = h .fields .entries;
+          energy = λ g b. within-rule (B .entry g) (ownEntry own g) (own-within g b) (h .fields .entries g b);
+          shared = shared-of;
+        }
+
+    -- all that settling contract k rests on
+    pub payable-of : (k : ℕ) → k < B .header .contracts → Payable (B .entry) (B .contract k) own
+    payable-of k l =
+        record {
+          rule = h .fields .contracts k l;
+          ace = λ g b d. part (own-within g b .ace) (h .funded k l g b d .ace) (h .fields .entries g b .ace);
+          asoe = λ g b d. part (own-within g b .asoe) (h .funded k l g b d .asoe) (h .fields .entries g b .asoe);
+        }
+      where
+        part : {x y : ℕ} → x ≤ y → 0 < y → y ≤ 20000000 → Shared x y
+        part a b c = record { part = a; above = b; below = omega arith }

@@ -1,0 +1,11 @@
+pub mod UnitRuns
+pub mod OneConstraint
+pub mod Loops
+pub mod AllLines
+pub mod Link
+pub mod Whole
+pub mod LineCount
+pub mod Given
+pub mod Ends
+pub mod Demand3
+pub mod Example

@@ -1,0 +1,87 @@
+-- The walk over a book's rows meets the lines of the statement's definition, in its order. Assumes nothing.
+use Prim.Native.Nat.{ℕ, zero, suc, _<_}
+use mathlib.Core.Path.{_≡_, refl, sym, ap, ap₂, _∙_}
+use mathlib.Core.Bool.{Bool, true, false, cond}
+use mathlib.Core.List.{List, [], _++_}
+use lib.Dec.{eqb}
+use native.Mathlib.Omega.{arith}
+use Rattle.sections.proofs.Total.{total-same}
+use Rattle.records.specs.declared.rows.Entry.{Entry}
+use Rattle.records.specs.declared.rows.Constraint.{Constraint}
+use Rattle.records.specs.declared.rows.UnitRow.{UnitRow}
+use Rattle.records.specs.declared.rows.Contract.{Contract}
+use Rattle.totals.specs.Divisors.{shareOf, divisorOf}
+use Rattle.book.specs.Book.{Book}
+use Rattle.amounts.specs.Pools.{poolsOf}
+use Rattle.amounts.specs.Own.{ownEntry}
+use Rattle.amounts.specs.declared.own.Own.{Own}
+use Rattle.accounts.specs.Rows.{rowsOf, keep, joined, concatMap}
+use Rattle.accounts.specs.Account.{publicOf, rowsOfAccount, ownEnergy}
+use Rattle.accounts.proofs.Joined.{joined-same}
+use Rattle.accounts.proofs.Lists.{joined-rows, joined-keep}
+use Rattle.statement.specs.declared.Line.{Line}
+use Rattle.lines.specs.Lines.{unitLines}
+use Rattle.settlement.specs.Settle.{entryIn, ofConstraint, constraintLines, regionLines, contractLines, linesOf}
+use Rattle.settlement.specs.Walks.{ownLines, unitLinesAt, conLines, conLinesAt, contractLinesAt, bookLines}
+
+-- ---- the five entries
+
+entry-in : (f : ℕ → Entry) (g : ℕ) → g < 5 → entryIn (rowsOf f 5) g ≡ f g
+unfolding entryIn rowsOf
+entry-in f zero l = refl
+entry-in f (suc zero) l = refl
+entry-in f (suc (suc zero)) l = refl
+entry-in f (suc (suc (suc zero))) l = refl
+entry-in f (suc (suc (suc (suc zero)))) l = refl
+entry-in f (suc (suc (suc (suc (suc g))))) l = absurd (none l)
+  where
+    none : suc (suc (suc (suc (suc g)))) < 5 → ⊥
+    none l = omega arith
+
+divisor-same : (f h : ℕ → Entry) (r : Constraint) → ((g : ℕ) → g < 5 → f g ≡ h g) → divisorOf f r ≡ divisorOf h r
+divisor-same f h r e = total-same _ _ 5 (λ g l. ap (λ (x : Entry). shareOf r x g) (e g l))
+
+-- ---- unit rows
+
+swapped : (a b : Bool) (ls : List Line) → cond a (cond b ls []) [] ≡ cond b (cond a ls []) []
+swapped true true ls = refl
+swapped true false ls = refl
+swapped false true ls = refl
+swapped false false ls = refl
+
+units-link : (unit : ℕ → UnitRow) (m account : ℕ) (r : Constraint) → concatMap (ofConstraint r) (keep (λ q. eqb (q .account) account) (rowsOf unit m)) ≡ joined (unitLinesAt unit account r (poolsOf r)) m
+unfolding ofConstraint unitLinesAt ownLines
+units-link unit m account r =
+    sym (joined-keep unit (ofConstraint r) (λ q. eqb (q .account) account) m)
+    ∙ joined-same _ _ m (λ u l. swapped (eqb (unit u .account) account) (eqb (unit u .constraint) (r .id)) (unitLines r (poolsOf r) (unit u)))
+
+-- ---- all lines
+
+module _ (B : Book) (account : ℕ) (own : Own) (e : (g : ℕ) → g < 5 → ownEntry own g ≡ ownEnergy (rowsOfAccount B account .energies) g) where
+  con-link : (r : Constraint) → constraintLines (entryIn (rowsOf (B .entry) 5)) (ownEnergy (rowsOfAccount B account .energies)) (rowsOfAccount B account .units) r ≡ conLines (B .unit) (B .header .units) account r (divisorOf (ownEntry own) r) (divisorOf (B .entry) r)
+  unfolding constraintLines conLines rowsOfAccount
+  con-link r =
+      rw (
+        units-link (B .unit) (B .header .units) account r,
+        divisor-same (entryIn (rowsOf (B .entry) 5)) (B .entry) r (entry-in (B .entry)),
+        divisor-same (ownEntry own) (ownEnergy (rowsOfAccount B account .energies)) r e,
+      )
+
+  paid-link : (k : Contract) → contractLines (entryIn (rowsOf (B .entry) 5)) (ownEnergy (rowsOfAccount B account .energies)) k ≡ joined (regionLines (B .entry) (ownEntry own) k) 5
+  unfolding contractLines regionLines
+  paid-link k = joined-same _ _ 5 (λ g l. rw (entry-in (B .entry) g l, ← e g l))
+
+  con-at : (j : ℕ) → constraintLines (entryIn (rowsOf (B .entry) 5)) (ownEnergy (rowsOfAccount B account .energies)) (rowsOfAccount B account .units) (B .constraint j) ≡ conLinesAt (B .entry) (B .constraint) (B .unit) (B .header .units) account own j
+  unfolding conLinesAt
+  con-at j = con-link (B .constraint j)
+
+  paid-at : (k : ℕ) → contractLines (entryIn (rowsOf (B .entry) 5)) (ownEnergy (rowsOfAccount B account .energies)) (B .contract k) ≡ contractLinesAt (B .entry) (ownEntry own) (B .contract) k
+  unfolding contractLinesAt
+  paid-at k = paid-link (B .contract k)
+
+  pub lines-link : linesOf (publicOf B) (rowsOfAccount B account) ≡ bookLines B account own
+  unfolding linesOf publicOf bookLines
+  lines-link =
+      ap₂ _++_
+      (sym (joined-rows (B .constraint) _ (B .header .constraints)) ∙ joined-same _ _ (B .header .constraints) (λ j l. con-at j))
+      (sym (joined-rows (B .contract) _ (B .header .contracts)) ∙ joined-same _ _ (B .header .contracts) (λ k l. paid-at k))

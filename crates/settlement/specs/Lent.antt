@@ -1,0 +1,25 @@
+-- What the call answers, and what the lent buffer holds then. 01, Refusals: "A refusal answers its number and place, .. and the lent buffer
+-- holds what it held. Success writes exactly the statement at the front and answers its length; later bytes stay."
+use Prim.Native.Nat.{ℕ}
+use mathlib.Core.Path.{_≡_}
+use mathlib.Core.Bool.{cond}
+use mathlib.Core.List.{List}
+use lib.Dec.{leb}
+use lib.ListN.{length}
+use Rattle.ground.specs.Put.{put}
+use Rattle.settlement.specs.Settle.{Outcome, refuses, gives}
+use Rattle.settlement.specs.declared.Written.{Written}
+use Rattle.settlement.specs.declared.Written.the-variants.{Length, Refused}
+
+-- 13: "lent buffer shorter than the statement"
+unfoldable pub answerFor : Outcome → List ℕ → Written
+answerFor (refuses number place) l = Refused number place
+answerFor (gives xs) l = cond (leb (length xs) (length l)) (Length (length xs)) (Refused 13 0)
+
+unfoldable pub leftIn : Outcome → List ℕ → List ℕ
+leftIn (refuses number place) l = l
+leftIn (gives xs) l = cond (leb (length xs) (length l)) (put l 0 xs) l
+
+pub record Lent (o : Outcome) (l : List ℕ) (r : Written) (b : List ℕ) : Type 0 where
+  pub answer : r ≡ answerFor o l
+  pub left : b ≡ leftIn o l

@@ -1,0 +1,4 @@
+pub mod Settle
+pub mod Walks
+pub mod Lent
+pub mod Agree

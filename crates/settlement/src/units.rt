@@ -1,0 +1,122 @@
+// An account's lines of one constraint. Unit rows stand by their constraints, so a cursor walks them beside the constraints.
+ghost use mathlib.Core.Path.{_≡_};
+ghost use Prim.Native.Nat.{_*_, _≤_};
+ghost use lib.ListN.{length};
+ghost use Rattle.sections.specs.Walk.{Stands};
+ghost use Rattle.records.specs.Rows.{unitRow};
+ghost use Rattle.records.specs.Facts.{UnitRule};
+ghost use Rattle.factors.specs.Naming.{keyOf};
+ghost use Rattle.factors.specs.Runs.{Walked};
+ghost use Rattle.totals.specs.Divisors.{divisorOf};
+ghost use Rattle.amounts.specs.Bounds.{SmallPools};
+ghost use Rattle.amounts.specs.Own.{ownEntry};
+ghost use Rattle.accounts.specs.Rows.{joined};
+ghost use Rattle.lines.specs.Emitted.{Emitted, Room};
+ghost use Rattle.settlement.specs.Walks.{ownLines, unitLinesAt, UnitsDone, conLines, Settles, LinesDone};
+use amounts::own;
+use amounts::own::Own;
+use amounts::pools;
+use amounts::pools::Pools;
+use lines::emit;
+use lines::emit::Tally;
+use lines::groups;
+use lines::make;
+use records::rows;
+use records::rows::Constraint;
+use records::rows::UnitRow;
+
+// The lines of a unit row, where the account owns it.
+fn own_unit(
+    buf: &mut [u8],
+    t: Tally,
+    r: Constraint,
+    p: Pools,
+    q: UnitRow,
+    account: u32,
+    writing: bool,
+) -> Tally
+    requires { ⌜ Room (now buf) writing t (length (ownLines account r p q)) ⌝ }
+    requires { ⌜ SmallPools p ⌝ }
+    requires { ⌜ UnitRule q ⌝ }
+    ensures { λ x. ⌜ Emitted (now (buf .entry)) writing t (ownLines account r p q) (now (buf .exit)) x ⌝ }
+{
+    if q.account != account {
+        return t;
+    }
+    groups::emit_unit(buf, t, r, p, q, writing)
+}
+
+// Where a walk over unit rows stands, and the tally of its lines.
+pub struct Cursor {
+    pub next: usize,
+    pub tally: Tally,
+}
+
+// The unit lines of one constraint, from the first of its unit rows on.
+fn unit_run(
+    buf: &mut [u8],
+    t: Tally,
+    units: &[u8],
+    m: usize,
+    from: usize,
+    r: Constraint,
+    p: Pools,
+    account: u32,
+    writing: bool,
+) -> Cursor
+    requires { ⌜ m * 20 ≤ length (now units) ⌝ }
+    requires { ⌜ Walked (unitRow (now units)) m ⌝ }
+    requires { ⌜ Stands (keyOf (unitRow (now units))) m (r .id) from ⌝ }
+    requires { ⌜ SmallPools p ⌝ }
+    requires { ⌜ Room (now buf) writing t (length (joined (unitLinesAt (unitRow (now units)) account r p) m)) ⌝ }
+    ensures { λ x. ⌜ UnitsDone (unitRow (now (units .entry))) m account r p (now (buf .entry)) writing t (now (buf .exit)) x ⌝ }
+{
+    let mut at = from;
+    let mut tally = t;
+    while at < m {
+        let q = rows::unit_row(units, at);
+        if q.constraint != r.id {
+            return Cursor { next: at, tally };
+        }
+        tally = own_unit(buf, tally, r, p, q, account, writing);
+        at += 1;
+    }
+    Cursor { next: at, tally }
+}
+
+// All lines of one constraint. A constraint of mode 0 has no unit rows, and the cursor stays.
+pub(crate) fn constraint_lines(
+    buf: &mut [u8],
+    t: Tally,
+    units: &[u8],
+    m: usize,
+    from: usize,
+    r: Constraint,
+    own: Own,
+    total: u64,
+    account: u32,
+    writing: bool,
+) -> Cursor
+    requires { ⌜ m * 20 ≤ length (now units) ⌝ }
+    requires { ⌜ Walked (unitRow (now units)) m ⌝ }
+    requires { ⌜ Stands (keyOf (unitRow (now units))) m (r .id) from ⌝ }
+    requires { ⌜ Settles (unitRow (now units)) m r own total ⌝ }
+    requires { ⌜ Room (now buf) writing t (length (conLines (unitRow (now units)) m account r (divisorOf (ownEntry own) r) total)) ⌝ }
+    ensures { λ x. ⌜ LinesDone (unitRow (now (units .entry))) m r (conLines (unitRow (now (units .entry))) m account r (divisorOf (ownEntry own) r) total) (now (buf .entry)) writing t (now (buf .exit)) x ⌝ }
+{
+    let share = own::over_regions(own, r);
+    if r.mode == 0 {
+        let line = make::contingency_line(r, share, total);
+        let tally = emit::emit(buf, t, line, writing);
+        return Cursor { next: from, tally };
+    }
+    let p = pools::pools_of(r);
+    let walked = unit_run(buf, t, units, m, from, r, p, account, writing);
+    let x = pools::residual_of(r, p);
+    let so_far = walked.tally;
+    let tally = groups::emit_rest(buf, so_far, r, x, share, total, writing);
+    Cursor {
+        next: walked.next,
+        tally,
+    }
+}

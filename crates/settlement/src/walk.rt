@@ -1,0 +1,181 @@
+// All lines of an account, in the statement's order: constraint by constraint, then contract by contract.
+ghost use mathlib.Core.Path.{_≡_};
+ghost use Prim.Native.Nat.{ℕ, _*_, _≤_, _<_};
+ghost use lib.ListN.{length};
+ghost use Rattle.records.specs.Rows.{entryRow, constraintRow, unitRow, contractRow};
+ghost use Rattle.accounts.specs.Rows.{joined};
+ghost use Rattle.amounts.specs.Own.{ownEntry};
+ghost use Rattle.lines.specs.Emitted.{Emitted, Room};
+ghost use Rattle.settlement.specs.Settle.{regionLines};
+ghost use Rattle.settlement.specs.Walks.{conLinesAt, contractLinesAt, bookLines, Ready, Payable, Walkable};
+ghost use Rattle.book.specs.Book.{bookIn};
+ghost use Rattle.book.specs.Facts.{Laid};
+use crate::units;
+use amounts::own::Own;
+use amounts::pools;
+use book::header::Header;
+use lines::emit::Tally;
+use lines::groups;
+use lines::make;
+use records::rows;
+use records::rows::Contract;
+use totals::divisors;
+
+// The lines of the n constraints. The cursor over the unit rows only moves forward.
+pub(crate) fn constraints(
+    buf: &mut [u8],
+    t: Tally,
+    regions: &[u8],
+    cons: &[u8],
+    n: usize,
+    units: &[u8],
+    m: usize,
+    own: Own,
+    account: u32,
+    writing: bool,
+) -> Tally
+    requires { ⌜ (60 ≤ length (now regions)) × ((n * 40 ≤ length (now cons)) × (m * 20 ≤ length (now units))) ⌝ }
+    requires { ⌜ Ready (entryRow (now regions)) (constraintRow (now cons)) n (unitRow (now units)) m own ⌝ }
+    requires { ⌜ Room (now buf) writing t (length (joined (conLinesAt (entryRow (now regions)) (constraintRow (now cons)) (unitRow (now units)) m account own) n)) ⌝ }
+    ensures { λ x. ⌜ Emitted (now (buf .entry)) writing t (joined (conLinesAt (entryRow (now (regions .entry))) (constraintRow (now (cons .entry))) (unitRow (now (units .entry))) m account own) n) (now (buf .exit)) x ⌝ }
+{
+    let mut tally = t;
+    let mut at = 0;
+    let mut j = 0;
+    while j < n {
+        let r = rows::constraint_row(cons, j);
+        let total = divisors::divisor(regions, r);
+        let out = units::constraint_lines(
+            buf,
+            tally,
+            units,
+            m,
+            at,
+            r,
+            own,
+            total,
+            account,
+            writing,
+        );
+        tally = out.tally;
+        at = out.next;
+        j += 1;
+    }
+    tally
+}
+
+// A contract's two lines in region g, where it benefits.
+fn region_lines(
+    buf: &mut [u8],
+    t: Tally,
+    regions: &[u8],
+    k: Contract,
+    g: usize,
+    own: Own,
+    writing: bool,
+) -> Tally
+    requires { ⌜ (60 ≤ length (now regions)) × (g < 5) ⌝ }
+    requires { ⌜ Payable (entryRow (now regions)) k own ⌝ }
+    requires { ⌜ Room (now buf) writing t (length (regionLines (entryRow (now regions)) (ownEntry own) k g)) ⌝ }
+    ensures { λ x. ⌜ Emitted (now (buf .entry)) writing t (regionLines (entryRow (now (regions .entry))) (ownEntry own) k g) (now (buf .exit)) x ⌝ }
+{
+    let factors = k.factors;
+    let factor = factors[g];
+    if factor == 0 {
+        return t;
+    }
+    let e = rows::entry_row(regions, g);
+    let ace = own.ace;
+    let asoe = own.asoe;
+    let x = pools::halves_of(k.payment, factor);
+    let by_ace = make::ace_line(k.id, g, x, ace[g], e.ace as u64);
+    let by_asoe = make::asoe_line(k.id, g, x, asoe[g], e.asoe as u64);
+    groups::emit_two(buf, t, by_ace, by_asoe, writing)
+}
+
+fn contract_lines(
+    buf: &mut [u8],
+    t: Tally,
+    regions: &[u8],
+    k: Contract,
+    own: Own,
+    writing: bool,
+) -> Tally
+    requires { ⌜ 60 ≤ length (now regions) ⌝ }
+    requires { ⌜ Payable (entryRow (now regions)) k own ⌝ }
+    requires { ⌜ Room (now buf) writing t (length (joined (regionLines (entryRow (now regions)) (ownEntry own) k) 5)) ⌝ }
+    ensures { λ x. ⌜ Emitted (now (buf .entry)) writing t (joined (regionLines (entryRow (now (regions .entry))) (ownEntry own) k) 5) (now (buf .exit)) x ⌝ }
+{
+    let mut tally = t;
+    let mut g = 0;
+    while g < 5 {
+        tally = region_lines(buf, tally, regions, k, g, own, writing);
+        g += 1;
+    }
+    tally
+}
+
+// The lines of the n contracts.
+pub(crate) fn contracts(
+    buf: &mut [u8],
+    t: Tally,
+    regions: &[u8],
+    contracts: &[u8],
+    n: usize,
+    own: Own,
+    writing: bool,
+) -> Tally
+    requires { ⌜ (60 ≤ length (now regions)) × (n * 36 ≤ length (now contracts)) ⌝ }
+    requires { ⌜ ((k : ℕ) → k < n → Payable (entryRow (now regions)) (contractRow (now contracts) k) own) ⌝ }
+    requires { ⌜ Room (now buf) writing t (length (joined (contractLinesAt (entryRow (now regions)) (ownEntry own) (contractRow (now contracts))) n)) ⌝ }
+    ensures { λ x. ⌜ Emitted (now (buf .entry)) writing t (joined (contractLinesAt (entryRow (now (regions .entry))) (ownEntry own) (contractRow (now (contracts .entry)))) n) (now (buf .exit)) x ⌝ }
+{
+    let mut tally = t;
+    let mut i = 0;
+    while i < n {
+        let k = rows::contract_row(contracts, i);
+        tally = contract_lines(buf, tally, regions, k, own, writing);
+        i += 1;
+    }
+    tally
+}
+
+// All lines of the account: those of the constraints, then those of the contracts.
+pub(crate) fn all_lines(
+    buf: &mut [u8],
+    t: Tally,
+    book: &[u8],
+    h: Header,
+    own: Own,
+    account: u32,
+    writing: bool,
+) -> Tally
+    requires { ⌜ Laid (now book) h ⌝ }
+    requires { ⌜ Walkable (bookIn (now book) h) own ⌝ }
+    requires { ⌜ Room (now buf) writing t (length (bookLines (bookIn (now book) h) account own)) ⌝ }
+    ensures { λ x. ⌜ Emitted (now (buf .entry)) writing t (bookLines (bookIn (now (book .entry)) h) account own) (now (buf .exit)) x ⌝ }
+{
+    let units = h.units_at();
+    let paid = h.contracts_at();
+    let first = constraints(
+        buf,
+        t,
+        &book[24..],
+        &book[84..],
+        h.constraints as usize,
+        &book[units..],
+        h.units as usize,
+        own,
+        account,
+        writing,
+    );
+    contracts(
+        buf,
+        first,
+        &book[24..],
+        &book[paid..],
+        h.contracts as usize,
+        own,
+        writing,
+    )
+}
