@@ -1,9 +1,11 @@
 -- What a search over the records says of them one by one, and back. Assumes nothing.
-use Prim.Native.Nat.{ℕ, zero, suc, _≤_, _<_}
+use Prim.Native.Nat.{ℕ, zero, suc, _+_, _≤_, _<_}
 use mathlib.Core.Path.{_≡_, refl, sym}
-use mathlib.Core.Bool.{Bool, true, false, _&&_, _||_}
+use mathlib.Core.Bool.{Bool, true, false, not, _&&_, _||_}
 use mathlib.Core.Logic.{_⊎_, inl, inr, ⊎-elim}
+use borrow.Author.Tests.{not-true, not-false}
 use native.Mathlib.Omega.{arith}
+use native.Mathlib.Numerals.{add-one}
 use native.Mathlib.Nat.{eq-or-lt-of-le, not-suc-le-zero, le-of-suc-le-suc, le-refl}
 use Rattle.sections.specs.Search.{some, all}
 
@@ -71,6 +73,31 @@ module _ (p : ℕ → Bool) where
       (λ (q : k ≡ n). rw q (right (all p n) (p n) e))
       (λ (j : k < n). all-each n (left (all p n) (p n) e) k j)
       (eq-or-lt-of-le (le-of-suc-le-suc l))
+
+  -- a loop that tests one record after the other: its start, a turn whose test passed, one whose test failed, its end
+  pub all-none : all p 0 ≡ true
+  unfolding all
+  all-none = refl
+
+  pub all-more : (i : ℕ) {b : Bool} → all p i ≡ true → b ≡ p i → not b ≡ false → all p (i + 1) ≡ true
+  unfolding all
+  all-more i {b} g e t = rw (add-one, g, ← e, not-false b t)
+
+  pub all-stop : (i n : ℕ) {b : Bool} → b ≡ p i → not b ≡ true → i < n → false ≡ all p n
+  unfolding all
+  all-stop i zero e t h = absurd (not-suc-le-zero h)
+  all-stop i (suc n) {b} e t h =
+      ⊎-elim
+      (λ (q : i ≡ n). rw (← q, ← e, not-true b t) (sym (and-false (all p i))))
+      (λ (l : i < n). rw (← all-stop i n e t l))
+      (eq-or-lt-of-le (le-of-suc-le-suc h))
+    where
+      and-false : (b : Bool) → (b && false) ≡ false
+      and-false true = refl
+      and-false false = refl
+
+  pub all-done : (i n : ℕ) → all p i ≡ true → i ≡ n → true ≡ all p n
+  all-done i n g e = rw (← e, g)
 
 -- two tests that agree on each record
 pub all-same : (p q : ℕ → Bool) (n : ℕ) → ((k : ℕ) → p k ≡ q k) → all p n ≡ all q n

@@ -1,0 +1,71 @@
+-- Each way in which a call on a statement ends, and what a statement's bytes have room for. Assumes nothing.
+use Prim.Native.Nat.{ℕ, _+_, _*_, _≤_, _<_}
+use mathlib.Core.Path.{_≡_, sym, _∙_}
+use mathlib.Core.List.{List, [], _∷_}
+use mathlib.Core.Bool.{Bool, true, false, not}
+use lib.Dec.{leb}
+use lib.ListN.{length}
+use native.Mathlib.Omega.{arith}
+use borrow.Author.Tests.{le-leb, lt-leb, leb-true, not-true, not-false}
+use Rattle.ground.specs.Every.{Every}
+use Rattle.ground.proofs.Every.{every}
+use Rattle.sections.specs.Search.{all}
+use Rattle.statement.specs.declared.Heading.{Heading}
+use Rattle.statement.specs.declared.Line.{Line}
+use Rattle.reading.specs.Reading.{headingAt, lineAt, headed, lineHolds, isStatement}
+use Rattle.reading.specs.Calls.{headingRead, lineRead}
+use Rattle.reading.specs.declared.HeadingRead.the-variants as heading
+use Rattle.reading.specs.declared.LineRead.the-variants as line
+use Rattle.reading.proofs.Whole.{headed-long}
+
+-- what a statement has: 24 bytes, a header, lines that hold
+module _ (s : List ℕ) (q : isStatement s ≡ true) where
+  tests : Every (leb 24 (length s) ∷ headed s ∷ all (lineHolds s) (headingAt s .lines) ∷ [])
+  unfolding isStatement
+  tests = every (leb 24 (length s) ∷ headed s ∷ all (lineHolds s) (headingAt s .lines) ∷ []) q
+
+  pub statement-long : 24 ≤ length s
+  statement-long = leb-true 24 (length s) (tests .0)
+
+  pub statement-headed : headed s ≡ true
+  statement-headed = tests .1 .0
+
+  pub statement-lines : all (lineHolds s) (headingAt s .lines) ≡ true
+  statement-lines = tests .1 .1 .0
+
+module _ (s : List ℕ) {b : Bool} (e : b ≡ isStatement s) where
+  -- 14
+  pub no-heading : not b ≡ true → heading.Refused 14 0 ≡ headingRead s
+  unfolding headingRead
+  no-heading t = rw (← e, not-true b t)
+
+  pub no-line : (i : ℕ) → not b ≡ true → line.Refused 14 0 ≡ lineRead s i
+  unfolding lineRead
+  no-line i t = rw (← e, not-true b t)
+
+  module _ (t : not b ≡ false) where
+    holds : isStatement s ≡ true
+    holds = sym e ∙ not-false b t
+
+    pub header-lies : 24 ≤ length s
+    header-lies = statement-long s holds
+
+    all-lie : 24 + headingAt s .lines * 24 ≤ length s
+    all-lie = headed-long s (statement-headed s holds)
+
+    pub heading-given : (h : Heading) → h ≡ headingAt s → heading.Heading h ≡ headingRead s
+    unfolding headingRead
+    heading-given h g = rw (← e, not-false b t, ← g)
+
+    module _ (h : Heading) (g : h ≡ headingAt s) (i : ℕ) where
+      -- 15
+      pub past-end : h .lines ≤ i → line.Refused 15 0 ≡ lineRead s i
+      unfolding lineRead
+      past-end l = rw (← e, not-false b t, ← g, le-leb (h .lines) i l)
+
+      pub line-lies : i < h .lines → 24 + (i + 1) * 24 ≤ length s
+      line-lies l = let a : 24 + h .lines * 24 ≤ length s = rw g all-lie in omega arith
+
+      pub line-given : (x : Line) → i < h .lines → x ≡ lineAt s i → line.Line x ≡ lineRead s i
+      unfolding lineRead
+      line-given x l q = rw (← e, not-false b t, ← g, lt-leb (h .lines) i l, ← q)

@@ -1,0 +1,4 @@
+pub mod Read
+pub mod Whole
+pub mod Ends
+pub mod Trip
