@@ -1,10 +1,14 @@
 // The library as C and Rust see it (include/fervolatro.h): numbers and byte slices in, plain structs out. Nothing is decided here.
 ghost use mathlib.Core.Path.{_≡_};
 ghost use Rattle.book.specs.Table.{verdict};
+ghost use Rattle.reading.specs.Calls.{headingRead, lineRead};
+ghost use Rattle.rewriting.specs.Rewriting.{rewritten};
 ghost use Rattle.settlement.specs.Settle.{outcome};
-ghost use Rattle.fervolatro.specs.Answers.{verdictAnswer, writtenAnswer, Called};
+ghost use Rattle.fervolatro.specs.Answers.{verdictAnswer, writtenAnswer, headingAnswer, entryAnswer, Called};
+use reading::HeadingRead;
+use reading::LineRead;
 use sections::Verdict;
-use settlement::Written;
+use statement::Written;
 
 // `fervolatro_verdict`: refusal 0 is acceptance, and its place is 0.
 #[repr(C)]
@@ -71,4 +75,102 @@ pub extern "C" fn fervolatro_statement(
     ensures { λ r. ⌜ Called (outcome (now (book .entry)) account) (now (buffer .entry)) r (now (buffer .exit)) ⌝ }
 {
     written(settlement::statement(book, account, buffer))
+}
+
+// `fervolatro_heading`: refusal 0 is success, and then the other fields are the header's.
+#[repr(C)]
+pub struct HeadingAnswer {
+    pub refusal: u64,
+    pub place: u64,
+    pub account: u64,
+    pub date: u64,
+    pub interval: u64,
+    pub run: u64,
+    pub lines: u64,
+}
+
+fn heading(h: HeadingRead) -> HeadingAnswer
+    ensures { λ r. ⌜ r ≡ headingAnswer h ⌝ }
+{
+    match h {
+        HeadingRead::Heading(x) => HeadingAnswer {
+            refusal: 0,
+            place: 0,
+            account: x.account as u64,
+            date: x.date as u64,
+            interval: x.interval as u64,
+            run: x.run as u64,
+            lines: x.lines as u64,
+        },
+        HeadingRead::Refused(number, place) => HeadingAnswer {
+            refusal: number as u64,
+            place: place as u64,
+            account: 0,
+            date: 0,
+            interval: 0,
+            run: 0,
+            lines: 0,
+        },
+    }
+}
+
+// The header of a statement.
+#[no_mangle]
+pub extern "C" fn fervolatro_header(bytes: &[u8]) -> HeadingAnswer
+    ensures { λ r. ⌜ r ≡ headingAnswer (headingRead (now (bytes .entry))) ⌝ }
+{
+    heading(reading::header(bytes))
+}
+
+// `fervolatro_entry`: refusal 0 is success, and then the other fields are the line's.
+#[repr(C)]
+pub struct EntryAnswer {
+    pub refusal: u64,
+    pub place: u64,
+    pub id: u64,
+    pub part: u64,
+    pub regions: u64,
+    pub unit: u64,
+    pub amount: i64,
+}
+
+fn entry(l: LineRead) -> EntryAnswer
+    ensures { λ r. ⌜ r ≡ entryAnswer l ⌝ }
+{
+    match l {
+        LineRead::Line(x) => EntryAnswer {
+            refusal: 0,
+            place: 0,
+            id: x.id as u64,
+            part: x.part as u64,
+            regions: x.regions as u64,
+            unit: x.unit as u64,
+            amount: x.amount,
+        },
+        LineRead::Refused(number, place) => EntryAnswer {
+            refusal: number as u64,
+            place: place as u64,
+            id: 0,
+            part: 0,
+            regions: 0,
+            unit: 0,
+            amount: 0,
+        },
+    }
+}
+
+// One line of a statement, by its number from 0.
+#[no_mangle]
+pub extern "C" fn fervolatro_line(bytes: &[u8], index: u64) -> EntryAnswer
+    ensures { λ r. ⌜ r ≡ entryAnswer (lineRead (now (bytes .entry)) index) ⌝ }
+{
+    entry(reading::line(bytes, index))
+}
+
+// A statement that was read, written again at the front of the buffer, or the refusal that leaves every byte of it.
+#[no_mangle]
+pub extern "C" fn fervolatro_rewrite(bytes: &[u8], buffer: &mut [u8]) -> WrittenAnswer
+    ensures { λ r. ⌜ Called (rewritten (now (bytes .entry))) (now (buffer .entry)) r (now (buffer .exit)) ⌝ }
+{
+    written(rewriting::rewrite(bytes, buffer))
 }

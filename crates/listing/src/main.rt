@@ -4,7 +4,7 @@ use ground::read;
 use ground::sign;
 use libc::STDIN_FILENO;
 use libc::STDOUT_FILENO;
-use settlement::Written;
+use statement::Written;
 ghost use Prim.Native.Nat.{_+_, _≤_};
 ghost use lib.ListN.{length};
 

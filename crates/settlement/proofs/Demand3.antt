@@ -3,9 +3,9 @@ use Prim.Native.Nat.{ℕ}
 use mathlib.Core.Path.{_≡_, sym, _∙_}
 use mathlib.Core.List.{List}
 use Rattle.settlement.specs.Settle.{ifAccepted, settled, outcome}
-use Rattle.settlement.specs.Lent.{answerFor, leftIn, Lent}
+use Rattle.statement.specs.Lent.{answerFor, leftIn, Lent}
 use Rattle.settlement.specs.Agree.{Agree}
-use Rattle.settlement.specs.declared.Written.{Written}
+use Rattle.statement.specs.declared.Written.{Written}
 
 -- the outcome of one account is the same in both books
 pub same-outcome : (b c : List ℕ) (account : ℕ) → Agree b c account → outcome b account ≡ outcome c account

@@ -27,15 +27,16 @@ use Rattle.accounts.specs.Held.{HeldIs}
 use Rattle.accounts.specs.declared.Held.{Held}
 use Rattle.accounts.proofs.Own.{own-within, held-own, held-unknown}
 use Rattle.statement.specs.Statement.{statementBytes}
+use Rattle.statement.specs.Lent.{Lent}
+use Rattle.statement.specs.declared.Written.{Written}
+use Rattle.statement.specs.declared.Written.the-variants.{Length}
+use Rattle.statement.specs.declared.Written.the-variants as written
+use Rattle.statement.proofs.Lent.{lent-refused}
 use Rattle.lines.specs.Emitted.{anyOver, Emitted}
 use Rattle.lines.specs.declared.emit.Tally.{Tally}
-use Rattle.settlement.specs.Settle.{linesOf, headingOf, statementOf, refuses, settled, ifAccepted, outcome}
+use Rattle.settlement.specs.Settle.{linesOf, headingOf, statementOf, settled, ifAccepted, outcome}
 use Rattle.settlement.specs.Walks.{conLinesAt, contractLinesAt, bookLines, Walkable, Owned}
-use Rattle.settlement.specs.Lent.{Lent}
-use Rattle.settlement.specs.declared.Written.{Written}
-use Rattle.settlement.specs.declared.Written.the-variants.{Length}
-use Rattle.settlement.specs.declared.Written.the-variants as written
-use Rattle.settlement.proofs.Whole.{start, lent-refused, settled-unknown, settled-over, lent-short, lent-written}
+use Rattle.settlement.proofs.Whole.{start, settled-unknown, settled-over, lent-short, lent-written}
 use Rattle.settlement.proofs.Link.{lines-link}
 use Rattle.settlement.proofs.Given.{ready-of, payable-of}
 use Rattle.settlement.proofs.LineCount.{few-lines, few-pays}

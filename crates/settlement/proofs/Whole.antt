@@ -1,26 +1,23 @@
 -- The header and then the lines make the statement; and each way in which the call ends. Assumes nothing.
 use Prim.Native.Nat.{ℕ, _+_, _*_, _≤_, _<_}
-use mathlib.Core.Path.{_≡_, refl, sym, ap, subst, _∙_}
-use mathlib.Core.Bool.{Bool, true, false, not, _&&_, _||_}
+use mathlib.Core.Path.{_≡_, subst}
+use mathlib.Core.Bool.{true, false}
 use mathlib.Core.List.{List}
-use borrow.Author.Tests.{le-leb, lt-leb, not-true, not-false}
 use lib.ListN.{length}
 use native.Mathlib.Omega.{arith}
 use Rattle.ground.specs.Put.{put, Wrote}
 use Rattle.ground.proofs.Put.{put-more}
-use Rattle.sections.specs.declared.Verdict.{Verdict}
-use Rattle.book.specs.Table.{verdict}
 use Rattle.accounts.specs.Account.{Public, Rows, unknown}
 use Rattle.statement.specs.Statement.{headingBytes, linesBytes, statementBytes}
+use Rattle.statement.specs.Lent.{refuses, gives, Lent}
 use Rattle.statement.specs.declared.Heading.{Heading}
 use Rattle.statement.specs.declared.Line.{Line}
+use Rattle.statement.specs.declared.Written.the-variants.{Length, Refused}
 use Rattle.statement.proofs.Lines.{heading-length, statement-length}
+use Rattle.statement.proofs.Lent as lent
 use Rattle.lines.specs.Emitted.{anyOver, Emitted, Room}
 use Rattle.lines.specs.declared.emit.Tally.{Tally}
-use Rattle.settlement.specs.Settle.{linesOf, headingOf, statementOf, Outcome, refuses, gives, settled, ifAccepted, outcome}
-use Rattle.settlement.specs.Lent.{answerFor, leftIn, Lent}
-use Rattle.settlement.specs.declared.Written.{Written}
-use Rattle.settlement.specs.declared.Written.the-variants.{Length, Refused}
+use Rattle.settlement.specs.Settle.{linesOf, statementOf, settled}
 
 -- no line yet
 abbrev pub start : Tally
@@ -38,10 +35,6 @@ statement-out hd ls {l} {a} {b} w m =
     put-more l 0 (headingBytes hd) (linesBytes ls) (w .bytes) (subst (λ (n : ℕ). b ≡ put a n (linesBytes ls)) q (m .bytes))
 
 -- ---- the ends of the call; o is what the definition gives
-
-pub lent-refused : (number place : ℕ) (o : Outcome) (l : List ℕ) → o ≡ refuses number place → Lent o l (Refused number place) l
-unfolding answerFor leftIn
-lent-refused number place o l e = record { answer = rw e; left = rw e }
 
 module _ (account : ℕ) (p : Public) (r : Rows) where
   pub settled-unknown : unknown r ≡ true → settled account p r ≡ refuses 11 0
@@ -64,14 +57,8 @@ module _ (account : ℕ) (p : Public) (r : Rows) where
 
       module _ (l : List ℕ) (n : ℕ) (c : n ≡ length (linesOf p r)) where
         pub lent-short : length l < 24 + n * 24 → Lent (settled account p r) l (Refused 13 0) l
-        unfolding answerFor leftIn
-        lent-short h =
-            let f = lt-leb (length (statementOf account p r)) (length l) (omega (arith, long)) in
-            record { answer = rw (settled-gives, f); left = rw (settled-gives, f) }
+        lent-short h = lent.lent-short (settled account p r) (statementOf account p r) settled-gives l (omega (arith, long))
 
         pub lent-written : {b : List ℕ} → 24 + n * 24 ≤ length l → b ≡ put l 0 (statementOf account p r) → Lent (settled account p r) l (Length (24 + n * 24)) b
-        unfolding answerFor leftIn
         lent-written h e =
-            let f = le-leb (length (statementOf account p r)) (length l) (omega (arith, long)) in
-            let q : 24 + n * 24 ≡ length (statementOf account p r) = omega (arith, long) in
-            record { answer = rw (settled-gives, f) (ap Length q); left = rw (settled-gives, f) e }
+            lent.lent-written (settled account p r) (statementOf account p r) settled-gives l (24 + n * 24) (omega (arith, long)) (omega (arith, long)) e

@@ -1,4 +1,3 @@
 pub mod Settle
 pub mod Walks
-pub mod Lent
 pub mod Agree

@@ -19,6 +19,7 @@ use Rattle.amounts.specs.Pools.{poolsOf, residualOf, halvesOf}
 use Rattle.accounts.specs.Rows.{joined, concatMap}
 use Rattle.accounts.specs.Account.{Public, Rows, publicOf, rowsOfAccount, ownEnergy, unknown}
 use Rattle.statement.specs.Statement.{statementBytes}
+use Rattle.statement.specs.Lent.{Outcome, refuses, gives}
 use Rattle.statement.specs.declared.Heading.{Heading}
 use Rattle.statement.specs.declared.Line.{Line}
 use Rattle.lines.specs.Lines.{contingencyLine, unitLines, restLines, aceLine, asoeLine}
@@ -69,11 +70,6 @@ unfoldable pub statementOf : ℕ → Public → Rows → List ℕ
 statementOf account public rows = statementBytes (headingOf account public (length (linesOf public rows))) (linesOf public rows)
 
 -- ---- what the call answers and leaves
-
--- a refusal, or a statement's bytes
-pub data Outcome : Type 0 where
-  refuses : ℕ → ℕ → Outcome
-  gives : List ℕ → Outcome
 
 -- 11: "no unit row and no energy row names the account"; 12: "a line would pass 50,000,000,000 either way"
 unfoldable pub settled : ℕ → Public → Rows → Outcome

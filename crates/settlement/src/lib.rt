@@ -11,21 +11,16 @@ ghost use Rattle.book.specs.Facts.{Laid};
 ghost use Rattle.book.specs.Accepted.{Promise};
 ghost use Rattle.accounts.specs.Account.{publicOf, rowsOfAccount};
 ghost use Rattle.statement.specs.Statement.{statementBytes};
+ghost use Rattle.statement.specs.Lent.{Lent};
 ghost use Rattle.settlement.specs.Settle.{headingOf, settled, outcome};
 ghost use Rattle.settlement.specs.Walks.{bookLines, Walkable, Owned};
-ghost use Rattle.settlement.specs.Lent.{Lent};
 use amounts::own::Own;
 use book::header;
 use book::header::Header;
 use lines::emit::Tally;
 use sections::Verdict;
 use statement::Heading;
-
-// How many bytes were written, or the refusal's number and place.
-pub enum Written {
-    Length(usize),
-    Refused(u8, usize),
-}
+use statement::Written;
 
 // The header and the lines, into a buffer that has room for them.
 fn write(buffer: &mut [u8], book: &[u8], h: Header, own: Own, account: u32, lines: u16)

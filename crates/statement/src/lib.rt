@@ -27,6 +27,12 @@ pub struct Line {
     pub amount: i64,
 }
 
+// What a call that writes a statement answers: how many bytes it wrote, or the refusal's number and place.
+pub enum Written {
+    Length(usize),
+    Refused(u8, usize),
+}
+
 // The three letters of the mark.
 fn put_mark(buf: &mut [u8])
     requires { ⌜ 3 ≤ length (now buf) ⌝ }

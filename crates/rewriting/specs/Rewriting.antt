@@ -5,7 +5,7 @@ use mathlib.Core.List.{List}
 use mathlib.Core.Bool.{cond}
 use Rattle.statement.specs.Statement.{statementBytes}
 use Rattle.reading.specs.Reading.{headingAt, linesIn, isStatement}
-use Rattle.settlement.specs.Settle.{Outcome, refuses, gives}
+use Rattle.statement.specs.Lent.{Outcome, refuses, gives}
 
 unfoldable pub rewritten : List ℕ → Outcome
 rewritten s = cond (isStatement s) (gives (statementBytes (headingAt s) (linesIn s (headingAt s .lines)))) (refuses 14 0)

@@ -1,4 +1,4 @@
--- What the call answers, and what the lent buffer holds then. 01, Refusals: "A refusal answers its number and place, .. and the lent buffer
+-- What a call that writes a statement answers, and what the lent buffer holds then. 01, Refusals: "A refusal answers its number and place, .. and the lent buffer
 -- holds what it held. Success writes exactly the statement at the front and answers its length; later bytes stay."
 use Prim.Native.Nat.{ℕ}
 use mathlib.Core.Path.{_≡_}
@@ -7,9 +7,13 @@ use mathlib.Core.List.{List}
 use lib.Dec.{leb}
 use lib.ListN.{length}
 use Rattle.ground.specs.Put.{put}
-use Rattle.settlement.specs.Settle.{Outcome, refuses, gives}
-use Rattle.settlement.specs.declared.Written.{Written}
-use Rattle.settlement.specs.declared.Written.the-variants.{Length, Refused}
+use Rattle.statement.specs.declared.Written.{Written}
+use Rattle.statement.specs.declared.Written.the-variants.{Length, Refused}
+
+-- a refusal, or a statement's bytes
+pub data Outcome : Type 0 where
+  refuses : ℕ → ℕ → Outcome
+  gives : List ℕ → Outcome
 
 -- 13: "lent buffer shorter than the statement"
 unfoldable pub answerFor : Outcome → List ℕ → Written

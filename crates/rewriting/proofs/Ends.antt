@@ -1,26 +1,25 @@
 -- Each way in which a statement's writing again ends, and demand 2's second round trip: read and written, the same bytes. Assumes nothing.
 use Prim.Native.Nat.{ℕ, zero, suc, _+_, _*_, _≤_, _<_}
-use mathlib.Core.Path.{_≡_, refl, sym, ap, _∙_}
+use mathlib.Core.Path.{_≡_, refl, sym, _∙_}
 use mathlib.Core.List.{List, [], _∷_}
 use mathlib.Core.Bool.{Bool, true, false, not}
 use native.Mathlib.Omega.{arith}
-use borrow.Author.Tests.{le-leb, lt-leb, not-true, not-false}
+use borrow.Author.Tests.{le-leb, not-true, not-false}
 use lib.ListN.{length, length-append}
 use Rattle.ground.specs.Bytes.{AreBytes}
 use Rattle.ground.specs.Put.{put, Wrote}
 use Rattle.ground.proofs.Put.{wrote-length}
 use Rattle.statement.specs.Statement.{headingBytes, linesBytes, statementBytes}
+use Rattle.statement.specs.Lent.{refuses, gives, answerFor, leftIn, Lent}
 use Rattle.statement.specs.declared.Heading.{Heading}
+use Rattle.statement.specs.declared.Written.{Written}
+use Rattle.statement.specs.declared.Written.the-variants.{Length, Refused}
+use Rattle.statement.proofs.Lent.{lent-refused, lent-short, lent-written}
 use Rattle.statement.proofs.Lines.{statement-length, heading-end, wrote-statement}
 use Rattle.reading.specs.Reading.{headingAt, lineAt, linesIn, isStatement}
 use Rattle.reading.proofs.Whole.{headed-length}
 use Rattle.reading.proofs.Ends.{statement-long, statement-headed}
 use Rattle.reading.proofs.Trip.{read-and-written}
-use Rattle.settlement.specs.Settle.{Outcome, refuses, gives}
-use Rattle.settlement.specs.Lent.{answerFor, leftIn, Lent}
-use Rattle.settlement.specs.declared.Written.{Written}
-use Rattle.settlement.specs.declared.Written.the-variants.{Length, Refused}
-use Rattle.settlement.proofs.Whole.{lent-refused}
 use Rattle.rewriting.specs.Rewriting.{rewritten}
 
 lines-in-length : (s : List ℕ) (n : ℕ) → length (linesIn s n) ≡ n
@@ -55,10 +54,7 @@ module _ (s : List ℕ) {b : Bool} (e : b ≡ isStatement s) where
 
     -- 13
     pub end-13 : (l : List ℕ) → length l < length s → Lent (rewritten s) l (Refused 13 0) l
-    unfolding answerFor leftIn
-    end-13 l h =
-        let f = lt-leb (length (again s)) (length l) (omega (arith, same-length)) in
-        record { answer = rw (given, f); left = rw (given, f) }
+    end-13 l h = lent-short (rewritten s) (again s) given l (omega (arith, same-length))
 
     pub header-lies : 24 ≤ length s
     header-lies = statement-long s holds
@@ -71,13 +67,11 @@ module _ (s : List ℕ) {b : Bool} (e : b ≡ isStatement s) where
       lines-fit long w = omega (arith, lines-lie, wrote-length w)
 
       pub end-written : {l a : List ℕ} {m : ℕ} {x : List ℕ} → length s ≤ length l → Wrote l 0 (headingBytes h) a m → x ≡ put a 24 (linesBytes (linesIn s (h .lines))) → Lent (rewritten s) l (Length (length s)) x
-      unfolding answerFor leftIn statementBytes
       end-written {l} {a} {m} {x} long w p =
-          let f = le-leb (length (again s)) (length l) (omega (arith, same-length)) in
           let at24 : m ≡ 24 = heading-end h w in
           let rest : Wrote a m (linesBytes (linesIn s (h .lines))) x (m + length (linesBytes (linesIn s (h .lines)))) = record { bytes = rw at24 p; next = refl } in
           let whole = wrote-statement h (linesIn s (h .lines)) w rest in
-          record { answer = rw (given, f) (ap Length (sym same-length)); left = rw (given, f) (rw g at (whole .bytes)) }
+          lent-written (rewritten s) (again s) given l (length s) (sym same-length) (omega (arith, same-length)) (rw g at (whole .bytes))
 
 -- demand 2: "read and written, the same bytes", into any buffer that is long enough, later bytes kept
 pub rewritten-is-the-same : (s : List ℕ) → AreBytes s → isStatement s ≡ true → (l : List ℕ) → length s ≤ length l → (r : Written) (x : List ℕ) → Lent (rewritten s) l r x → (r ≡ Length (length s)) × (x ≡ put l 0 s)

@@ -5,9 +5,9 @@ ghost use lib.ListN.{length};
 ghost use Rattle.ground.specs.Put.{put};
 ghost use Rattle.statement.specs.Statement.{linesBytes};
 ghost use Rattle.reading.specs.Reading.{linesIn};
-ghost use Rattle.settlement.specs.Lent.{Lent};
+ghost use Rattle.statement.specs.Lent.{Lent};
 ghost use Rattle.rewriting.specs.Rewriting.{rewritten};
-use settlement::Written;
+use statement::Written;
 
 // The first n lines, each behind the one before.
 fn put_lines(buffer: &mut [u8], s: &[u8], n: usize)
