@@ -1,0 +1,88 @@
+-- The pools of a book, in book order, and the lines of each. 01, Balance: "pools are numbered from 0 in book order: one for a mode 0 constraint,
+-- three for mode 1 (FPP, used, unused), one for mode 2, one for a contract."
+use Prim.Native.Nat.{ℕ, zero, suc}
+use mathlib.Core.List.{List, [], _∷_, _++_}
+use mathlib.Core.Bool.{Bool, cond, _&&_, _||_}
+use lib.Dec.{eqb}
+use Rattle.sections.specs.Total.{total}
+use Rattle.records.specs.Rules.{factorOf}
+use Rattle.records.specs.declared.rows.Constraint.{Constraint}
+use Rattle.records.specs.declared.rows.Contract.{Contract}
+use Rattle.amounts.specs.Pools.{poolsOf}
+use Rattle.accounts.specs.Rows.{concatMap}
+use Rattle.accounts.specs.Account.{Public}
+use Rattle.statement.specs.declared.Line.{Line}
+use Rattle.balance.specs.declared.kinds.Kind.{Kind}
+use Rattle.balance.specs.declared.kinds.Kind.the-variants.{Contingency, Fpp, Used, Unused, Payment}
+
+-- a pool: the record that it is of, which of its lines, the amount to recover, and how many amounts are rounded before its lines are
+pub record Pool : Type 0 where
+  pub id : ℕ
+  pub kind : Kind
+  pub amount : ℕ
+  pub stages : ℕ
+
+-- ---- a constraint's pools
+
+-- "the amount to recover (0 for FPP)"
+unfoldable pub recovers : Constraint → Kind → ℕ
+recovers r Contingency = r .cost
+recovers r Fpp = 0
+recovers r Used = poolsOf r .used
+recovers r Unused = poolsOf r .unused
+recovers r Payment = 0
+
+-- "one half more for a regulation or FPP pool": its residual pool is rounded before it is shared
+unfoldable pub stagesOf : Kind → ℕ
+stagesOf Contingency = 0
+stagesOf Fpp = 1
+stagesOf Used = 1
+stagesOf Unused = 1
+stagesOf Payment = 0
+
+unfoldable pub constraintPool : Constraint → Kind → Pool
+constraintPool r kind = record { id = r .id; kind = kind; amount = recovers r kind; stages = stagesOf kind }
+
+-- "one for a mode 0 constraint, three for mode 1 (FPP, used, unused), one for mode 2"
+unfoldable pub constraintPools : Constraint → List Pool
+constraintPools r =
+    cond (eqb (r .mode) 0) (constraintPool r Contingency ∷ [])
+    (cond (eqb (r .mode) 1) (constraintPool r Fpp ∷ constraintPool r Used ∷ constraintPool r Unused ∷ []) (constraintPool r Unused ∷ []))
+
+-- ---- a contract's pool
+
+-- "one half more per benefiting region": each region's part of the payment is rounded before it is shared
+unfoldable pub benefiting : Contract → ℕ
+benefiting k = total (λ g. cond (eqb (factorOf (k .factors) g) 0) 0 1) 5
+
+unfoldable pub contractPool : Contract → Pool
+contractPool k = record { id = k .id; kind = Payment; amount = k .payment; stages = benefiting k }
+
+-- ---- all pools
+
+unfoldable pub poolsIn : Public → List Pool
+poolsIn public = concatMap constraintPools (public .constraints) ++ concatMap (λ k. contractPool k ∷ []) (public .contracts)
+
+-- the pool of a number from 0, or none: "pool .. number past the end"
+pub data Found : Type 0 where
+  past : Found
+  found : Pool → Found
+
+unfoldable pub poolAt : List Pool → ℕ → Found
+poolAt [] number = past
+poolAt (p ∷ ps) zero = found p
+poolAt (p ∷ ps) (suc number) = poolAt ps number
+
+-- ---- its lines
+
+-- "1 contingency by ACE, 2 by ASOE; unit lines 3 FPP, 4 used, 5 unused; residual lines 6 FPP, 7 used, 8 unused; 9 contract by ACE, 10 by ASOE"
+abbrev pub hasPart : Kind → ℕ → Bool
+hasPart Contingency part = eqb part 1 || eqb part 2
+hasPart Fpp part = eqb part 3 || eqb part 6
+hasPart Used part = eqb part 4 || eqb part 7
+hasPart Unused part = eqb part 5 || eqb part 8
+hasPart Payment part = eqb part 9 || eqb part 10
+
+-- whether a line of a statement is in a pool
+unfoldable pub inPool : Pool → Line → Bool
+inPool p l = eqb (l .id) (p .id) && hasPart (p .kind) (l .part)
