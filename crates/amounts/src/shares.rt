@@ -16,9 +16,9 @@ pub fn share(pool: u64, own: u64, total: u64) -> u64
     round::nearest(pool * own, total)
 }
 
-// What is credited less what is charged.
-fn net(credit: u64, charge: u64) -> i64
-    requires { ⌜ (credit ≤ 50000000000) × (charge ≤ 50000000000) ⌝ }
+// What is credited less what is charged: of one line, or summed over lines.
+pub fn net(credit: u64, charge: u64) -> i64
+    requires { ⌜ (credit ≤ 1000000000000000) × (charge ≤ 1000000000000000) ⌝ }
     ensures { λ r. ⌜ r ≡ less credit charge ⌝ }
 {
     sign::plus(sign::signed(false, credit), sign::signed(true, charge))

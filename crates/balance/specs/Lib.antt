@@ -1,3 +1,5 @@
 pub mod Pools
 pub mod Balance
 pub mod Shapes
+pub mod Places
+pub mod Units

@@ -28,6 +28,7 @@ use Rattle.balance.specs.Pools.{recovers, benefiting}
 use Rattle.balance.specs.Balance.{accountsOf}
 use Rattle.balance.specs.declared.Balance.{Balance}
 use Rattle.balance.specs.declared.kinds.Kind.{Kind}
+use Rattle.balance.specs.declared.kinds.Recovery.{Recovery}
 use Rattle.balance.specs.declared.kinds.Kind.the-variants.{Contingency, Fpp, Used, Unused, Payment}
 
 -- ---- by kind
@@ -77,6 +78,16 @@ chargeBy Fpp x = x .charge
 chargeBy Used x = x .used
 chargeBy Unused x = x .unused
 chargeBy Payment x = 0
+
+-- what a pool of this kind rests on
+unfoldable pub recoveryOf : Constraint → Kind → Recovery
+recoveryOf r kind =
+    record {
+      amount = recovers r kind;
+      pool = poolBy kind (poolsOf r);
+      credit = creditBy kind (residualOf r (poolsOf r));
+      charge = chargeBy kind (residualOf r (poolsOf r));
+    }
 
 -- ---- unit rows
 

@@ -1,4 +1,10 @@
-// Which of a record's lines a pool has.
+// Which of a record's lines a pool has, and what such a pool rests on.
+ghost use mathlib.Core.Path.{_≡_};
+ghost use Rattle.records.specs.Facts.{ConstraintRule};
+ghost use Rattle.balance.specs.Shapes.{plusBy, minusBy, recoveryOf};
+use amounts::pools;
+use records::rows::Constraint;
+use records::rows::UnitRow;
 
 // A constraint of mode 0 has one pool, one of mode 1 three (FPP, used, unused), one of mode 2 the unused alone; a contract has one.
 pub enum Kind {
@@ -7,4 +13,81 @@ pub enum Kind {
     Used,
     Unused,
     Payment,
+}
+
+impl Kind {
+    // What a unit row's factor credits: FPP by CF.
+    pub(crate) fn plus(self, q: UnitRow) -> u32
+        ensures { λ x. ⌜ x ≡ plusBy self q ⌝ }
+    {
+        match self {
+            Kind::Contingency => 0,
+            Kind::Fpp => q.plus,
+            Kind::Used => 0,
+            Kind::Unused => 0,
+            Kind::Payment => 0,
+        }
+    }
+
+    // What it charges: used by min(0, CF), unused by DCF.
+    pub(crate) fn minus(self, q: UnitRow) -> u32
+        ensures { λ x. ⌜ x ≡ minusBy self q ⌝ }
+    {
+        match self {
+            Kind::Contingency => 0,
+            Kind::Fpp => q.minus,
+            Kind::Used => q.minus,
+            Kind::Unused => q.dcf,
+            Kind::Payment => 0,
+        }
+    }
+}
+
+// The amount to recover, the pool that unit rows share by their factors, and the residual pool, which is credit - charge.
+pub(crate) struct Recovery {
+    pub amount: u64,
+    pub pool: u64,
+    pub credit: u64,
+    pub charge: u64,
+}
+
+// What a regulation pool rests on. A constraint's FPP pool has nothing to recover.
+pub(crate) fn recovery_of(r: Constraint, kind: Kind) -> Recovery
+    requires { ⌜ ConstraintRule r ⌝ }
+    ensures { λ x. ⌜ x ≡ recoveryOf r kind ⌝ }
+{
+    let p = pools::pools_of(r);
+    let x = pools::residual_of(r, p);
+    match kind {
+        Kind::Contingency => Recovery {
+            amount: r.cost,
+            pool: 0,
+            credit: 0,
+            charge: 0,
+        },
+        Kind::Fpp => Recovery {
+            amount: 0,
+            pool: p.fpp,
+            credit: x.credit,
+            charge: x.charge,
+        },
+        Kind::Used => Recovery {
+            amount: p.used,
+            pool: p.used,
+            credit: 0,
+            charge: x.used,
+        },
+        Kind::Unused => Recovery {
+            amount: p.unused,
+            pool: p.unused,
+            credit: 0,
+            charge: x.unused,
+        },
+        Kind::Payment => Recovery {
+            amount: 0,
+            pool: 0,
+            credit: 0,
+            charge: 0,
+        },
+    }
 }
