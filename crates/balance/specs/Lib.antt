@@ -3,3 +3,4 @@ pub mod Balance
 pub mod Shapes
 pub mod Places
 pub mod Units
+pub mod Rests

@@ -2,6 +2,7 @@
 pub mod kinds; // kinds.rt: which lines of a record a pool has, and what it rests on
 pub mod places; // places.rt: where the pool of a number stands
 mod units; // units.rt: what unit rows are credited and charged
+mod pools; // pools.rt: the balance of each kind of pool
 
 // A pool's balance. Money is in ten-thousandths of a dollar.
 pub struct Balance {

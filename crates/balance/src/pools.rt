@@ -1,0 +1,212 @@
+// The balance of each kind of pool, of a book that the checks have accepted.
+ghost use mathlib.Core.Path.{_≡_};
+ghost use Prim.Native.Nat.{ℕ, _+_, _*_, _≤_, _<_};
+ghost use lib.ListN.{length};
+ghost use Rattle.sections.specs.Total.{total};
+ghost use Rattle.totals.specs.Divisors.{divisorOf};
+ghost use Rattle.book.specs.Book.{bookIn};
+ghost use Rattle.book.specs.Facts.{Laid};
+ghost use Rattle.book.specs.Accepted.{Promise};
+ghost use Rattle.parties.specs.Parties.{partSum, Shareable};
+ghost use Rattle.balance.specs.Pools.{benefiting};
+ghost use Rattle.balance.specs.Balance.{accountsOf};
+ghost use Rattle.balance.specs.Shapes.{constraintBasis, belongs, regionSum, contingencyShape, regulationShape, contractShape};
+ghost use Rattle.balance.specs.Rests.{OfConstraint, OfContract, PartIs, Counted, PaidIs};
+use crate::kinds;
+use crate::kinds::Kind;
+use crate::units;
+use crate::Balance;
+use amounts::pools;
+use amounts::shares;
+use book::header::Header;
+use ground::sign;
+use parties::count;
+use parties::shares::Basis;
+use parties::shares::Part;
+use records::kinds::Region;
+use records::kinds::Service;
+use records::rows;
+use records::rows::Constraint;
+use records::rows::Contract;
+use totals::divisors;
+
+// How many accounts the book has.
+pub(crate) fn accounts(book: &[u8], h: Header) -> usize
+    requires { ⌜ Laid (now book) h ⌝ }
+    requires { ⌜ Promise (bookIn (now book) h) ⌝ }
+    ensures { λ c. ⌜ Counted (bookIn (now (book .entry)) h) c ⌝ }
+{
+    let energies = h.energies_at();
+    let units = h.units_at();
+    count::all_accounts(
+        &book[energies..],
+        h.energies as usize,
+        &book[units..],
+        h.units as usize,
+    )
+}
+
+// What a part of a pool comes to over all accounts.
+fn shared(book: &[u8], h: Header, p: Part) -> u64
+    requires { ⌜ Laid (now book) h ⌝ }
+    requires { ⌜ Promise (bookIn (now book) h) ⌝ }
+    requires { ⌜ Shareable p (bookIn (now book) h .energy) (h .energies) ⌝ }
+    ensures { λ x. ⌜ (x ≡ partSum p (bookIn (now (book .entry)) h .energy) (h .energies)) × (x ≤ 51200000000000) ⌝ }
+{
+    let energies = h.energies_at();
+    parties::shares::part_sum(&book[energies..], h.energies as usize, p)
+}
+
+// By which energy a constraint's cost is shared.
+fn basis_of(r: Constraint) -> Basis
+    ensures { λ x. ⌜ x ≡ constraintBasis r ⌝ }
+{
+    if Service::of(r.service).is_regulation() {
+        return Basis::Residual;
+    }
+    if Service::of(r.service).is_raise() {
+        return Basis::Asoe;
+    }
+    Basis::Ace
+}
+
+// What an amount that is shared over a constraint's regions comes to over all accounts.
+fn over_regions(book: &[u8], h: Header, r: Constraint, whole: u64, amount: u64) -> u64
+    requires { ⌜ Laid (now book) h ⌝ }
+    requires { ⌜ Promise (bookIn (now book) h) ⌝ }
+    requires { ⌜ OfConstraint (bookIn (now book) h) r ⌝ }
+    requires { ⌜ (whole ≡ divisorOf (bookIn (now book) h .entry) r) × (amount ≤ 50000000000) ⌝ }
+    ensures { λ x. ⌜ PartIs (bookIn (now (book .entry)) h) r amount x ⌝ }
+{
+    let basis = basis_of(r);
+    shared(
+        book,
+        h,
+        Part {
+            amount,
+            whole,
+            mask: r.mask,
+            basis,
+        },
+    )
+}
+
+// A contingency pool: a line of each account.
+pub(crate) fn contingency(book: &[u8], h: Header, r: Constraint, count: usize) -> Balance
+    requires { ⌜ Laid (now book) h ⌝ }
+    requires { ⌜ Promise (bookIn (now book) h) ⌝ }
+    requires { ⌜ OfConstraint (bookIn (now book) h) r ⌝ }
+    requires { ⌜ Counted (bookIn (now book) h) count ⌝ }
+    ensures { λ x. ⌜ x ≡ contingencyShape (bookIn (now (book .entry)) h) r ⌝ }
+{
+    let whole = divisors::divisor(&book[24..], r);
+    let charge = over_regions(book, h, r, whole, r.cost);
+    Balance {
+        amount: sign::signed(false, r.cost),
+        lines: count,
+        sum: shares::net(0, charge),
+    }
+}
+
+// A regulation pool: a line of each unit row, by its factor, and a residual line of each account.
+pub(crate) fn regulation(
+    book: &[u8],
+    h: Header,
+    r: Constraint,
+    kind: Kind,
+    count: usize,
+) -> Balance
+    requires { ⌜ Laid (now book) h ⌝ }
+    requires { ⌜ Promise (bookIn (now book) h) ⌝ }
+    requires { ⌜ OfConstraint (bookIn (now book) h) r ⌝ }
+    requires { ⌜ Counted (bookIn (now book) h) count ⌝ }
+    ensures { λ x. ⌜ x ≡ regulationShape (bookIn (now (book .entry)) h) r kind ⌝ }
+{
+    let x = kinds::recovery_of(r, kind);
+    let from = h.units_at();
+    let u = units::unit_sums(&book[from..], h.units as usize, r.id, kind, x.pool);
+    let whole = divisors::divisor(&book[24..], r);
+    let credit = over_regions(book, h, r, whole, x.credit);
+    let charge = over_regions(book, h, r, whole, x.charge);
+    Balance {
+        amount: sign::signed(false, x.amount),
+        lines: u.rows + count,
+        sum: shares::net(u.credit + credit, u.charge + charge),
+    }
+}
+
+// What all accounts pay in region g, where the contract benefits it.
+fn region_sum(book: &[u8], h: Header, k: Contract, g: usize) -> u64
+    requires { ⌜ Laid (now book) h ⌝ }
+    requires { ⌜ Promise (bookIn (now book) h) ⌝ }
+    requires { ⌜ OfContract (bookIn (now book) h) k ⌝ }
+    requires { ⌜ g < 5 ⌝ }
+    ensures { λ x. ⌜ (x ≡ regionSum (bookIn (now (book .entry)) h) k g) × (x ≤ 102400000000000) ⌝ }
+{
+    let factors = k.factors;
+    let factor = factors[g];
+    if factor == 0 {
+        return 0;
+    }
+    let e = rows::entry_row(&book[24..], g);
+    let x = pools::halves_of(k.payment, factor);
+    let mask = Region::of(g as u8).bit();
+    let consumed = Part {
+        amount: x.consumed,
+        whole: e.ace as u64,
+        mask,
+        basis: Basis::Ace,
+    };
+    let sent = Part {
+        amount: x.sent,
+        whole: e.asoe as u64,
+        mask,
+        basis: Basis::Asoe,
+    };
+    shared(book, h, consumed) + shared(book, h, sent)
+}
+
+// How many regions a contract benefits, and what all accounts pay in them.
+pub(crate) struct Paid {
+    pub regions: usize,
+    pub charge: u64,
+}
+
+fn paid(book: &[u8], h: Header, k: Contract) -> Paid
+    requires { ⌜ Laid (now book) h ⌝ }
+    requires { ⌜ Promise (bookIn (now book) h) ⌝ }
+    requires { ⌜ OfContract (bookIn (now book) h) k ⌝ }
+    ensures { λ x. ⌜ PaidIs (bookIn (now (book .entry)) h) k 5 x ⌝ }
+{
+    let factors = k.factors;
+    let mut sums = Paid {
+        regions: 0,
+        charge: 0,
+    };
+    let mut g = 0;
+    while g < Region::COUNT {
+        let benefits = (factors[g] != 0) as usize;
+        sums = Paid {
+            regions: sums.regions + benefits,
+            charge: sums.charge + region_sum(book, h, k, g),
+        };
+        g += 1;
+    }
+    sums
+}
+
+// A contract's pool: two lines of each account in each benefiting region.
+pub(crate) fn contract(book: &[u8], h: Header, k: Contract, count: usize) -> Balance
+    requires { ⌜ Laid (now book) h ⌝ }
+    requires { ⌜ Promise (bookIn (now book) h) ⌝ }
+    requires { ⌜ OfContract (bookIn (now book) h) k ⌝ }
+    requires { ⌜ Counted (bookIn (now book) h) count ⌝ }
+    ensures { λ x. ⌜ x ≡ contractShape (bookIn (now (book .entry)) h) k ⌝ }
+{
+    let x = paid(book, h, k);
+    Balance {
+        amount: sign::signed(false, k.payment),
+        lines: x.regions * (2 * count),
+        sum: shares::net(0, x.charge),
+    }
+}
