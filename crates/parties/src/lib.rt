@@ -1,3 +1,3 @@
 // All parties of a book: how many accounts its rows name, each once, and what a pool's shares by energy sum to over all of them.
-pub mod accounts; // accounts.rt: the accounts counted
+pub mod count; // count.rt: the accounts counted
 pub mod shares; // shares.rt: a part of a pool, shared by energy over all accounts

@@ -26,3 +26,6 @@ pub fn part_sum(energy: &[u8], n: usize, p: Part) -> u64
     requires { ⌜ Sorted (energyRow (now energy)) n ⌝ }
     requires { ⌜ Shareable p (energyRow (now energy)) n ⌝ }
     ensures { λ x. ⌜ (x ≡ partSum p (energyRow (now (energy .entry))) n) × (x ≤ 51200000000000) ⌝ }
+{
+    0
+}
