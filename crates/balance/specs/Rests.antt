@@ -1,5 +1,5 @@
 -- What the balance of a pool rests on, of a book that the checks have accepted. Only contracts of inner functions speak of these.
-use Prim.Native.Nat.{ℕ, _≤_, _<_}
+use Prim.Native.Nat.{ℕ, _*_, _≤_, _<_}
 use mathlib.Core.Path.{_≡_}
 use mathlib.Core.Bool.{cond}
 use lib.Dec.{eqb}

@@ -172,7 +172,7 @@ pub(crate) struct Paid {
     pub charge: u64,
 }
 
-fn paid(book: &[u8], h: Header, k: Contract) -> Paid
+fn payments(book: &[u8], h: Header, k: Contract) -> Paid
     requires { ⌜ Laid (now book) h ⌝ }
     requires { ⌜ Promise (bookIn (now book) h) ⌝ }
     requires { ⌜ OfContract (bookIn (now book) h) k ⌝ }
@@ -203,7 +203,7 @@ pub(crate) fn contract(book: &[u8], h: Header, k: Contract, count: usize) -> Bal
     requires { ⌜ Counted (bookIn (now book) h) count ⌝ }
     ensures { λ x. ⌜ x ≡ contractShape (bookIn (now (book .entry)) h) k ⌝ }
 {
-    let x = paid(book, h, k);
+    let x = payments(book, h, k);
     Balance {
         amount: sign::signed(false, k.payment),
         lines: x.regions * (2 * count),
