@@ -1,8 +1,9 @@
 -- Names, each once.
-use Prim.Native.Nat.{ℕ, zero, suc}
+use Prim.Native.Nat.{ℕ, zero, suc, _+_}
 use mathlib.Core.List.{List, [], _∷_}
 use mathlib.Core.Bool.{Bool, false, cond, _||_}
 use lib.Dec.{eqb}
+use Rattle.sections.specs.Search.{some}
 
 -- whether a stands in a list
 unfoldable pub has : ℕ → List ℕ → Bool
@@ -17,3 +18,12 @@ joinNew a l = cond (has a l) l (a ∷ l)
 unfoldable pub named : (ℕ → ℕ) → ℕ → List ℕ → List ℕ
 named name zero l = l
 named name (suc n) l = joinNew (name n) (named name n l)
+
+-- whether one of the records 0 .. n - 1 gives the name a
+unfoldable pub seen : (ℕ → ℕ) → ℕ → ℕ → Bool
+seen name n a = some (λ i. eqb (name i) a) n
+
+-- how often a stands in a list
+unfoldable pub times : ℕ → List ℕ → ℕ
+times a [] = 0
+times a (x ∷ l) = cond (eqb x a) 1 0 + times a l

@@ -1,0 +1,4 @@
+pub mod Sums
+pub mod Once
+pub mod Everyone
+pub mod Closing

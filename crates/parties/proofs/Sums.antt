@@ -1,0 +1,27 @@
+-- Sums over lists, against sums of their parts. Assumes nothing.
+use Prim.Native.Nat.{ℕ, _+_, _*_, _≤_}
+use mathlib.Core.Path.{_≡_, refl}
+use mathlib.Core.List.{List, [], _∷_}
+use native.Mathlib.Omega.{arith}
+use native.Mathlib.Nat.{suc-mul}
+use lib.ListN.{length}
+use Rattle.accounts.specs.Rows.{sumOf}
+
+module _ {A : Type 0} where
+  -- two numbers for each element, summed together or each alone
+  pub sum-plus : (f g : A → ℕ) (l : List A) → sumOf (λ a. f a + g a) l ≡ sumOf f l + sumOf g l
+  unfolding sumOf
+  sum-plus f g [] = refl
+  sum-plus f g (a ∷ l) = omega (arith, sum-plus f g l)
+
+  -- elements that add nothing
+  pub sum-none : (l : List A) → sumOf (λ a. 0) l ≡ 0
+  unfolding sumOf
+  sum-none [] = refl
+  sum-none (a ∷ l) = omega (arith, sum-none l)
+
+  -- numbers up to b have a sum of at most b for each
+  pub sum-bound : (f : A → ℕ) (b : ℕ) (l : List A) → ((a : A) → f a ≤ b) → sumOf f l ≤ length l * b
+  unfolding sumOf
+  sum-bound f b [] h = omega arith
+  sum-bound f b (a ∷ l) h = rw suc-mul (omega (arith, h a, sum-bound f b l h))
