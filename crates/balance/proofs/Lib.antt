@@ -1,0 +1,3 @@
+pub mod Energy
+pub mod Shareables
+pub mod Own
