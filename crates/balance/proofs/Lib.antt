@@ -1,3 +1,5 @@
 pub mod Energy
 pub mod Shareables
 pub mod Own
+pub mod Kept
+pub mod PoolLines
