@@ -1,16 +1,14 @@
 // The balance of each kind of pool, of a book that the checks have accepted.
 ghost use mathlib.Core.Path.{_≡_};
-ghost use Prim.Native.Nat.{ℕ, _+_, _*_, _≤_, _<_};
-ghost use lib.ListN.{length};
-ghost use Rattle.sections.specs.Total.{total};
+ghost use Prim.Native.Nat.{_≤_, _<_};
+ghost use mathlib.Core.Bool.{cond};
+ghost use lib.Dec.{eqb};
 ghost use Rattle.totals.specs.Divisors.{divisorOf};
 ghost use Rattle.book.specs.Book.{bookIn};
 ghost use Rattle.book.specs.Facts.{Laid};
 ghost use Rattle.book.specs.Accepted.{Promise};
 ghost use Rattle.parties.specs.Parties.{partSum, Shareable};
-ghost use Rattle.balance.specs.Pools.{benefiting};
-ghost use Rattle.balance.specs.Balance.{accountsOf};
-ghost use Rattle.balance.specs.Shapes.{constraintBasis, belongs, regionSum, contingencyShape, regulationShape, contractShape};
+ghost use Rattle.balance.specs.Shapes.{constraintBasis, regionSum, contingencyShape, regulationShape, contractShape};
 ghost use Rattle.balance.specs.Rests.{OfConstraint, OfContract, PartIs, Counted, PaidIs};
 use crate::kinds;
 use crate::kinds::Kind;
@@ -172,6 +170,16 @@ pub(crate) struct Paid {
     pub charge: u64,
 }
 
+// 1 for a region that a contract benefits, else 0.
+fn benefits(factor: u32) -> usize
+    ensures { λ x. ⌜ (x ≡ cond (eqb factor 0) 0 1) × (x ≤ 1) ⌝ }
+{
+    if factor == 0 {
+        return 0;
+    }
+    1
+}
+
 fn payments(book: &[u8], h: Header, k: Contract) -> Paid
     requires { ⌜ Laid (now book) h ⌝ }
     requires { ⌜ Promise (bookIn (now book) h) ⌝ }
@@ -185,9 +193,8 @@ fn payments(book: &[u8], h: Header, k: Contract) -> Paid
     };
     let mut g = 0;
     while g < Region::COUNT {
-        let benefits = (factors[g] != 0) as usize;
         sums = Paid {
-            regions: sums.regions + benefits,
+            regions: sums.regions + benefits(factors[g]),
             charge: sums.charge + region_sum(book, h, k, g),
         };
         g += 1;

@@ -1,44 +1,38 @@
+-- `balance::pools::contingency` meets its contract. The cost is shared over all accounts. Assumes nothing.
+use mathlib.Core.Path.{_∙_}
+use native.Mathlib.Omega.{arith}
+use borrow.Author.Needs.{needs, sfits-of}
+use mir.Facts.{toZ-ofZ}
+use Rattle.balance.proofs.Resting.{constraint-rule, contingency-is}
+use mathlib.Core.Path.{_∙_}
+use Rattle.balance.proofs.Resting.{constraint-rule, contingency-is}
 use borrow.Author.Needs.{needs}
 use Rattle.balance.proofs.pools.contingency.Statement.{statement}
 use Rattle.balance.proofs.pools.contingency.Tie as tie
-use Rattle.balance.proofs.pools.contingency.Reads as reads
-use Rattle.balance.proofs.pools.contingency.Lts as lts
-use Rattle.amounts.proofs.shares.net.Reads as net-reads
-use Rattle.balance.proofs.pools.over_regions.Reads as over-regions-reads
-use Rattle.ground.proofs.sign.signed.Reads as signed-reads
-use Rattle.totals.proofs.divisors.divisor.Reads as divisor-reads
 
--- src/pools.rt:102:35
 sub-divisor : tie.Need-sub-divisor
 sub-divisor c = search needs
 
--- src/pools.rt:102:35
 part-divisor-start : tie.Need-part-divisor-start
 part-divisor-start c = search needs
 
--- src/pools.rt:102:35
 part-divisor-end : tie.Need-part-divisor-end
 part-divisor-end c = search needs
 
--- src/pools.rt:102:9
 divisor-requires : tie.Need-divisor-requires
 divisor-requires c κs = search needs
 
--- src/pools.rt:103:9
 over-regions-requires : tie.Need-over-regions-requires
-over-regions-requires c κs = ?
+over-regions-requires c κs = (c .before .before .before .pre .0, (c .before .before .before .pre .1 .0, (c .before .before .before .pre .1 .1 .0, (c .divisor .ensures, constraint-rule (c .before .before .before .pre .1 .0) _ (c .before .before .before .pre .1 .1 .0) .cost))))
 
--- src/pools.rt:105:17
 signed-requires : tie.Need-signed-requires
-signed-requires c κs = ?
+signed-requires c κs = omega (arith, constraint-rule (c .before .before .before .before .pre .1 .0) _ (c .before .before .before .before .pre .1 .1 .0) .cost)
 
--- src/pools.rt:107:14
 net-requires : tie.Need-net-requires
 net-requires c κs = search needs
 
--- src/pools.rt:95:1
 returns : tie.Need-returns
-returns c = ?
+returns c = contingency-is _ _ (c .before .before .before .before .before .before .pre .1 .1 .1) _ (toZ-ofZ (sfits-of (c .before .signed .ok)) ∙ c .before .signed .ensures) (c .before .before .over-regions .ensures) (toZ-ofZ (sfits-of (c .net .ok)) ∙ c .net .ensures)
 
 pub contingency-spec : {M : Type 1} → statement M
 contingency-spec =

@@ -1,91 +1,74 @@
+-- `balance::pools::regulation` meets its contract. Unit rows by their factors, and the residual pool over all accounts. Assumes nothing.
+use mathlib.Core.Path.{_∙_}
+use native.Mathlib.Omega.{arith}
+use borrow.Author.Needs.{needs, sfits-of}
+use mir.Facts.{toZ-ofZ}
+use Rattle.book.proofs.Room.{units-room}
+use Rattle.book.specs.Book.{bookIn}
+use Rattle.balance.proofs.Resting.{constraint-rule, recovery-small, regulation-is}
+use mathlib.Core.Path.{_∙_}
+use Rattle.book.proofs.Room.{units-room}
+use Rattle.balance.proofs.Resting.{constraint-rule, recovery-small, regulation-is}
 use borrow.Author.Needs.{needs}
 use Rattle.balance.proofs.pools.regulation.Statement.{statement}
 use Rattle.balance.proofs.pools.regulation.Tie as tie
-use Rattle.balance.proofs.pools.regulation.Reads as reads
-use Rattle.balance.proofs.pools.regulation.Lts as lts
-use Rattle.amounts.proofs.shares.net.Reads as net-reads
-use Rattle.balance.proofs.kinds.recovery_of.Reads as recovery-of-reads
-use Rattle.balance.proofs.pools.over_regions.Reads as over-regions-reads
-use Rattle.balance.proofs.units.unit_sums.Reads as unit-sums-reads
-use Rattle.book.proofs.header.Header.units_at.Reads as units-at-reads
-use Rattle.ground.proofs.sign.signed.Reads as signed-reads
-use Rattle.totals.proofs.divisors.divisor.Reads as divisor-reads
 
--- src/pools.rt:125:9
 recovery-of-requires : tie.Need-recovery-of-requires
-recovery-of-requires c κs = ?
+recovery-of-requires c κs = constraint-rule (c .before .pre .1 .0) _ (c .before .pre .1 .1 .0)
 
--- src/pools.rt:126:9
 units-at-requires : tie.Need-units-at-requires
 units-at-requires c κs = search needs
 
--- src/pools.rt:127:30
 sub-unit-sums : tie.Need-sub-unit-sums
 sub-unit-sums c = search needs
 
--- src/pools.rt:127:30
 part-unit-sums-start : tie.Need-part-unit-sums-start
 part-unit-sums-start c = search needs
 
--- src/pools.rt:127:30
 part-unit-sums-end : tie.Need-part-unit-sums-end
 part-unit-sums-end c = search needs
 
--- src/pools.rt:127:45
 cast-unit-sums : tie.Need-cast-unit-sums
 cast-unit-sums c = search needs
 
--- src/pools.rt:127:9
 unit-sums-requires : tie.Need-unit-sums-requires
-unit-sums-requires c κs = ?
+unit-sums-requires c κs = ((units-room _ _ (c .before .before .before .before .before .pre .0) _ (c .before .before .units-at .ensures), (c .before .before .before .before .before .pre .1 .0 .few .units, recovery-small _ _ (constraint-rule (c .before .before .before .before .before .pre .1 .0) _ (c .before .before .before .before .before .pre .1 .1 .0)) (c .before .before .before .recovery-of .ensures) .pool)), rw (c .before .before .units-at .ensures) (c .before .before .before .before .before .pre .1 .0 .fields .units))
 
--- src/pools.rt:128:35
 sub-divisor : tie.Need-sub-divisor
 sub-divisor c = search needs
 
--- src/pools.rt:128:35
 part-divisor-start : tie.Need-part-divisor-start
 part-divisor-start c = search needs
 
--- src/pools.rt:128:35
 part-divisor-end : tie.Need-part-divisor-end
 part-divisor-end c = search needs
 
--- src/pools.rt:128:9
 divisor-requires : tie.Need-divisor-requires
 divisor-requires c κs = search needs
 
--- src/pools.rt:129:9
 over-regions-requires : tie.Need-over-regions-requires
-over-regions-requires c κs = ?
+over-regions-requires c κs = (c .before .before .before .before .before .before .before .before .pre .0, (c .before .before .before .before .before .before .before .before .pre .1 .0, (c .before .before .before .before .before .before .before .before .pre .1 .1 .0, (c .divisor .ensures, recovery-small _ _ (constraint-rule (c .before .before .before .before .before .before .before .before .pre .1 .0) _ (c .before .before .before .before .before .before .before .before .pre .1 .1 .0)) (c .before .before .before .before .before .before .recovery-of .ensures) .credit))))
 
--- src/pools.rt:130:9
 over-regions-requires-2 : tie.Need-over-regions-requires-2
-over-regions-requires-2 c κs = ?
+over-regions-requires-2 c κs = (c .before .before .before .before .before .before .before .before .before .pre .0, (c .before .before .before .before .before .before .before .before .before .pre .1 .0, (c .before .before .before .before .before .before .before .before .before .pre .1 .1 .0, (c .before .divisor .ensures, recovery-small _ _ (constraint-rule (c .before .before .before .before .before .before .before .before .before .pre .1 .0) _ (c .before .before .before .before .before .before .before .before .before .pre .1 .1 .0)) (c .before .before .before .before .before .before .before .recovery-of .ensures) .charge))))
 
--- src/pools.rt:132:17
 signed-requires : tie.Need-signed-requires
-signed-requires c κs = ?
+signed-requires c κs = omega (arith, recovery-small _ _ (constraint-rule (c .before .before .before .before .before .before .before .before .before .before .pre .1 .0) _ (c .before .before .before .before .before .before .before .before .before .before .pre .1 .1 .0)) (c .before .before .before .before .before .before .before .before .recovery-of .ensures) .amount)
 
--- src/pools.rt:133:16
 add-t16 : tie.Need-add-t16
-add-t16 c = ?
+add-t16 c = omega (arith, c .before .before .before .before .before .before .unit-sums .ensures .few, c .before .before .before .before .before .before .before .before .before .before .before .before .pre .1 .0 .few .units, c .before .before .before .before .before .before .before .before .before .before .before .before .pre .1 .1 .1 .few)
 
--- src/pools.rt:134:26
 add-net : tie.Need-add-net
-add-net c = ?
+add-net c = omega (arith, c .before .before .before .before .before .before .before .unit-sums .ensures .credit-small, c .before .before .before .before .before .before .before .before .before .before .before .before .before .pre .1 .0 .few .units, c .before .before .before .before .over-regions .ensures .small)
 
--- src/pools.rt:134:45
 add-net-2 : tie.Need-add-net-2
-add-net-2 c = ?
+add-net-2 c = omega (arith, c .before .before .before .before .before .before .before .before .unit-sums .ensures .charge-small, c .before .before .before .before .before .before .before .before .before .before .before .before .before .before .pre .1 .0 .few .units, c .before .before .before .before .over-regions2 .ensures .small)
 
--- src/pools.rt:134:14
 net-requires : tie.Need-net-requires
-net-requires c κs = ?
+net-requires c κs = (omega (arith, c .before .before .before .before .before .before .before .before .unit-sums .ensures .credit-small, c .before .before .before .before .before .before .before .before .before .before .before .before .before .before .pre .1 .0 .few .units, c .before .before .before .before .before .over-regions .ensures .small), omega (arith, c .before .before .before .before .before .before .before .before .unit-sums .ensures .charge-small, c .before .before .before .before .before .before .before .before .before .before .before .before .before .before .pre .1 .0 .few .units, c .before .before .before .before .over-regions2 .ensures .small))
 
--- src/pools.rt:112:1
 returns : tie.Need-returns
-returns c = ?
+returns c = regulation-is (bookIn (c .before .before .before .before .before .before .before .before .before .before .before .before .before .before .before .args .book .now) (c .before .before .before .before .before .before .before .before .before .before .before .before .before .before .before .args .h)) _ (c .before .before .before .before .before .before .before .before .before .before .before .before .before .before .before .pre .1 .1 .1) _ _ _ (c .before .before .before .before .before .before .before .before .before .before .before .before .before .recovery-of .ensures) (rw (c .before .before .before .before .before .before .before .before .before .before .before .before .units-at .ensures) at (c .before .before .before .before .before .before .before .before .before .unit-sums .ensures)) (c .before .before .before .before .before .before .over-regions .ensures) (c .before .before .before .before .before .over-regions2 .ensures) (toZ-ofZ (sfits-of (c .before .before .before .before .signed .ok)) ∙ c .before .before .before .before .signed .ensures) (toZ-ofZ (sfits-of (c .net .ok)) ∙ c .net .ensures)
 
 pub regulation-spec : {M : Type 1} → statement M
 regulation-spec =

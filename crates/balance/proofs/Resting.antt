@@ -1,0 +1,202 @@
+-- What the functions of each kind of pool need to know: sections where they stand in the book, and what an accepted book gives. Assumes nothing.
+use Prim.Native.Nat.{ℕ, _+_, _*_, _^_, _≤_, _<_}
+use mathlib.Core.Path.{_≡_, refl, sym, ap, subst, _∙_}
+use mathlib.Core.Bool.{Bool, true, false, cond}
+use mathlib.Core.List.{List}
+use native.Mathlib.Omega.{arith}
+use native.Mathlib.Numerals.{add-one}
+use borrow.Author.Tests.{eq-eqb, ne-eqb}
+use lib.Dec.{eqb}
+use lib.IntN.{ℤ, pos}
+use lib.ListN.{length}
+use Rattle.ground.specs.Bytes.{partFrom}
+use Rattle.ground.specs.Sign.{less}
+use Rattle.sections.specs.Total.{total}
+use Rattle.records.specs.Rows.{entryRow, unitRow, energyRow}
+use Rattle.records.specs.Facts.{ConstraintRule, UnitRule, EntryRule}
+use Rattle.records.specs.Rules.{factorOf}
+use Rattle.records.specs.Kinds.{raises, regulates}
+use Rattle.records.specs.declared.rows.Constraint.{Constraint}
+use Rattle.records.specs.declared.rows.Contract.{Contract}
+use Rattle.records.specs.declared.rows.Entry.{Entry}
+use Rattle.totals.specs.Divisors.{divisorOf}
+use Rattle.book.specs.Book.{Book, bookIn}
+use Rattle.book.specs.Header.{unitsFrom, energiesFrom}
+use Rattle.book.specs.Facts.{Laid}
+use Rattle.book.specs.Accepted.{Promise}
+use Rattle.book.specs.declared.header.Header.{Header}
+use Rattle.amounts.specs.Bounds.{SmallPools}
+use Rattle.amounts.specs.Pools.{poolsOf, halvesOf}
+use Rattle.amounts.specs.declared.pools.Pools.{Pools}
+use Rattle.amounts.specs.declared.pools.Halves.{Halves}
+use Rattle.amounts.proofs.Sizes.{pools-small, residual-small}
+use Rattle.parties.specs.Parties.{accountsIn, partSum, Sorted, Shareable}
+use Rattle.parties.specs.declared.shares.Basis.{Basis}
+use Rattle.parties.specs.declared.shares.Basis.the-variants as basis
+use Rattle.parties.specs.declared.shares.Part.{Part}
+use Rattle.balance.specs.Pools.{recovers, benefiting}
+use Rattle.balance.specs.Balance.{accountsOf}
+use Rattle.balance.specs.Shapes.{poolBy, recoveryOf, constraintBasis, partOf, consumedPart, sentPart, regionSum, contingencyShape, regulationShape, contractShape}
+use Rattle.balance.specs.Units.{SumsAre}
+use Rattle.balance.specs.Rests.{OfConstraint, OfContract, Counted, PartIs, PaidIs}
+use Rattle.balance.specs.declared.kinds.Kind.{Kind}
+use Rattle.balance.specs.declared.kinds.Kind.the-variants.{Contingency, Fpp, Used, Unused, Payment}
+use Rattle.balance.specs.declared.kinds.Recovery.{Recovery}
+use Rattle.balance.specs.declared.pools.Paid.{Paid}
+use Rattle.balance.specs.declared.units.UnitSums.{UnitSums}
+use Rattle.balance.proofs.Shareables.{credit-low, charge-low, sorted, constraint-shareable, consumed-shareable, sent-shareable}
+
+-- ---- sections where they stand; e and u are where the energy rows and the unit rows start
+
+module _ (b : List ℕ) (h : Header) (e : ℕ) (q : e ≡ energiesFrom h) where
+  pub sorted-at : Promise (bookIn b h) → Sorted (energyRow (partFrom e b)) (h .energies)
+  sorted-at p = rw q (sorted p)
+
+  pub shareable-at : (p : Part) → Shareable p (bookIn b h .energy) (h .energies) → Shareable p (energyRow (partFrom e b)) (h .energies)
+  shareable-at p s = rw q s
+
+  pub shared-is : (p : Part) {x : ℕ} → (x ≡ partSum p (energyRow (partFrom e b)) (h .energies)) × (x ≤ 51200000000000) → (x ≡ partSum p (bookIn b h .energy) (h .energies)) × (x ≤ 51200000000000)
+  shared-is p s = (rw q at (s .0), s .1)
+
+  pub counted-is : (u : ℕ) → u ≡ unitsFrom h → {c : ℕ} → (c ≡ length (accountsIn (energyRow (partFrom e b)) (h .energies) (unitRow (partFrom u b)) (h .units))) × (c ≤ 1624) → Counted (bookIn b h) c
+  counted-is u w s = record { all = rw (q, w) at (s .0); few = s .1 }
+
+-- ---- a constraint
+
+-- by which energy it is shared; t says whether it is regulation, s whether it raises
+module _ (r : Constraint) where
+  pub by-residual : regulates (r .service) ≡ true → basis.Residual ≡ constraintBasis r
+  unfolding constraintBasis
+  by-residual t = rw t
+
+  module _ (t : regulates (r .service) ≡ false) where
+    pub by-asoe : raises (r .service) ≡ true → basis.Asoe ≡ constraintBasis r
+    unfolding constraintBasis
+    by-asoe s = rw (t, s)
+
+    pub by-ace : raises (r .service) ≡ false → basis.Ace ≡ constraintBasis r
+    unfolding constraintBasis
+    by-ace s = rw (t, s)
+
+module _ {B : Book} (p : Promise B) (r : Constraint) (o : OfConstraint B r) where
+  pub constraint-rule : ConstraintRule r
+  constraint-rule = rw (o .same) (p .fields .constraints (o .place) (o .within))
+
+  module _ (amount whole : ℕ) (basis : Basis) (w : whole ≡ divisorOf (B .entry) r) (e : basis ≡ constraintBasis r) where
+    part-is : record { amount = amount; whole = whole; mask = r .mask; basis = basis } ≡ partOf (B .entry) r amount
+    unfolding partOf
+    part-is = rw (w, e)
+
+    pub over-shareable : amount ≤ 50000000000 → Shareable (record { amount = amount; whole = whole; mask = r .mask; basis = basis }) (B .energy) (B .header .energies)
+    over-shareable s = rw part-is (rw (o .same) (constraint-shareable p (o .place) (o .within) amount s))
+
+    pub over-is : {x : ℕ} → (x ≡ partSum (record { amount = amount; whole = whole; mask = r .mask; basis = basis }) (B .energy) (B .header .energies)) × (x ≤ 51200000000000) → PartIs B r amount x
+    over-is s = record { sum = rw part-is at (s .0); small = s .1 }
+
+-- ---- a contract in one region
+
+module _ {B : Book} (p : Promise B) (k : Contract) (o : OfContract B k) (g : ℕ) (m : g < 5) where
+  pub no-benefit : factorOf (k .factors) g ≡ 0 → (0 ≡ regionSum B k g) × (0 ≤ 102400000000000)
+  unfolding regionSum
+  no-benefit z = (rw (eq-eqb (factorOf (k .factors) g) 0 z), omega arith)
+
+  pub halves-fit : (k .payment ≤ 50000000000) × (factorOf (k .factors) g ≤ 1000000)
+  halves-fit = rw (o .same) ((p .fields .contracts (o .place) (o .within) .payment, p .fields .contracts (o .place) (o .within) .factor g m))
+
+  module _ (d : factorOf (k .factors) g ≡ 0 → ⊥) (x : Halves) (hx : x ≡ halvesOf (k .payment) (factorOf (k .factors) g)) (e : Entry) (he : e ≡ B .entry g) (mask : ℕ) (hm : mask ≡ 2 ^ g) where
+    abbrev consumedHere : Part
+    consumedHere = record { amount = x .consumed; whole = e .ace; mask = mask; basis = basis.Ace }
+
+    abbrev sentHere : Part
+    sentHere = record { amount = x .sent; whole = e .asoe; mask = mask; basis = basis.Asoe }
+
+    consumed-is : consumedHere ≡ consumedPart (B .entry) k g
+    unfolding consumedPart
+    consumed-is = rw (hx, he, hm)
+
+    sent-is : sentHere ≡ sentPart (B .entry) k g
+    unfolding sentPart
+    sent-is = rw (hx, he, hm)
+
+    benefits : factorOf (B .contract (o .place) .factors) g ≡ 0 → ⊥
+    benefits z = d (ap (λ (k : Contract). factorOf (k .factors) g) (o .same) ∙ z)
+
+    pub consumed-fits : Shareable consumedHere (B .energy) (B .header .energies)
+    consumed-fits = rw (consumed-is, o .same) (consumed-shareable p (o .place) g (o .within) m benefits)
+
+    pub sent-fits : Shareable sentHere (B .energy) (B .header .energies)
+    sent-fits = rw (sent-is, o .same) (sent-shareable p (o .place) g (o .within) m benefits)
+
+    pub region-is : {y z : ℕ} → (y ≡ partSum consumedHere (B .energy) (B .header .energies)) × (y ≤ 51200000000000) → (z ≡ partSum sentHere (B .energy) (B .header .energies)) × (z ≤ 51200000000000) → (y + z ≡ regionSum B k g) × (y + z ≤ 102400000000000)
+    unfolding regionSum
+    region-is s t = (rw (ne-eqb (factorOf (k .factors) g) 0 d, ← consumed-is, ← sent-is, s .0, t .0), omega (arith, s .1, t .1))
+
+-- ---- all regions of a contract
+
+module _ (B : Book) (k : Contract) where
+  pub paid-none : PaidIs B k 0 (record { regions = 0; charge = 0 })
+  unfolding total
+  paid-none = record { regions = refl; charge = refl; few = omega arith; small = omega arith }
+
+  pub paid-more : (g : ℕ) {x : Paid} {c y : ℕ} → PaidIs B k g x → (c ≡ cond (eqb (factorOf (k .factors) g) 0) 0 1) × (c ≤ 1) → (y ≡ regionSum B k g) × (y ≤ 102400000000000) → PaidIs B k (g + 1) (record { regions = x .regions + c; charge = x .charge + y })
+  unfolding total
+  paid-more g s q r =
+      record {
+        regions = rw (add-one, s .regions, q .0);
+        charge = rw (add-one, s .charge, r .0);
+        few = omega (arith, s .few, q .1);
+        small = omega (arith, s .small, r .1);
+      }
+
+  pub paid-all : (g : ℕ) {x : Paid} → PaidIs B k g x → g ≤ 5 → 5 ≤ g → PaidIs B k 5 x
+  paid-all g {x} s l m = subst (λ (z : ℕ). PaidIs B k z x) (omega arith) s
+
+-- ---- what a regulation pool rests on is small
+
+pool-low : (q : Pools) (kind : Kind) → SmallPools q → poolBy kind q ≤ 50000000000
+unfolding poolBy
+pool-low q Contingency s = omega arith
+pool-low q Fpp s = s .fpp
+pool-low q Used s = s .used
+pool-low q Unused s = s .unused
+pool-low q Payment s = omega arith
+
+recovers-low : (r : Constraint) (kind : Kind) → ConstraintRule r → SmallPools (poolsOf r) → recovers r kind ≤ 50000000000
+unfolding recovers
+recovers-low r Contingency c s = c .cost
+recovers-low r Fpp c s = omega arith
+recovers-low r Used c s = s .used
+recovers-low r Unused c s = s .unused
+recovers-low r Payment c s = omega arith
+
+pub record SmallRecovery (x : Recovery) : Type 0 where
+  pub amount : x .amount ≤ 50000000000
+  pub pool : x .pool ≤ 50000000000
+  pub credit : x .credit ≤ 50000000000
+  pub charge : x .charge ≤ 50000000000
+
+pub recovery-small : (r : Constraint) (kind : Kind) {x : Recovery} → ConstraintRule r → x ≡ recoveryOf r kind → SmallRecovery x
+unfolding recoveryOf
+recovery-small r kind c e =
+    let s = pools-small r c in
+    let t = residual-small r (poolsOf r) c s in
+    rw e (record { amount = recovers-low r kind c s; pool = pool-low (poolsOf r) kind s; credit = credit-low _ kind t; charge = charge-low _ kind t })
+
+-- ---- the balance of each kind of pool
+
+module _ (B : Book) (count : ℕ) (n : Counted B count) where
+  module _ (r : Constraint) where
+    pub contingency-is : {a s : ℤ} {x : ℕ} → a ≡ pos (r .cost) → PartIs B r (r .cost) x → s ≡ less 0 x → record { amount = a; lines = count; sum = s } ≡ contingencyShape B r
+    unfolding contingencyShape
+    contingency-is a x s = rw (a, n .all, s, x .sum)
+
+    pub regulation-is : (kind : Kind) (x : Recovery) → x ≡ recoveryOf r kind → {u : UnitSums} → SumsAre (B .unit) (B .header .units) (r .id) kind (x .pool) (B .header .units) u → {y z : ℕ} → PartIs B r (x .credit) y → PartIs B r (x .charge) z → {a s : ℤ} → a ≡ pos (x .amount) → s ≡ less (u .credit + y) (u .charge + z) → record { amount = a; lines = u .rows + count; sum = s } ≡ regulationShape B r kind
+    unfolding regulationShape recoveryOf
+    regulation-is kind x e u y z a s = rw (a, s, n .all, u .rows, u .credit, u .charge, y .sum, z .sum, e)
+
+  pub contract-payment : Promise B → (k : Contract) → OfContract B k → k .payment ≤ 50000000000
+  contract-payment p k o = rw (o .same) (p .fields .contracts (o .place) (o .within) .payment)
+
+  pub contract-is : (k : Contract) {x : Paid} → PaidIs B k 5 x → {a s : ℤ} → a ≡ pos (k .payment) → s ≡ less 0 (x .charge) → record { amount = a; lines = x .regions * (2 * count); sum = s } ≡ contractShape B k
+  unfolding contractShape benefiting
+  contract-is k p a s = rw (a, s, n .all, p .regions, p .charge)
