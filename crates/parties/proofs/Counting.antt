@@ -2,7 +2,7 @@
 use Prim.Native.Nat.{ℕ, _+_, _-_, _≤_, _<_}
 use mathlib.Core.Path.{_≡_, refl, ap₂, _∙_, sym}
 use mathlib.Core.List.{List, [], _∷_}
-use mathlib.Core.Bool.{Bool, true, false, cond, _||_, or-false}
+use mathlib.Core.Bool.{Bool, true, false, cond, not, _||_, or-false}
 use mathlib.Core.Logic.{⊎-elim}
 use native.Mathlib.Omega.{arith}
 use native.Mathlib.Numerals.{add-one}
@@ -16,8 +16,10 @@ use Rattle.sections.specs.Walk.{Stands}
 use Rattle.sections.proofs.Search.{lt-or-ge}
 use Rattle.records.specs.declared.rows.UnitRow.{UnitRow}
 use Rattle.records.specs.declared.rows.EnergyRow.{EnergyRow}
+use Rattle.accounts.specs.Rows.{rowsOf, keep, none}
+use Rattle.accounts.proofs.Lists.{some-rows}
 use Rattle.parties.specs.Once.{has, joinNew, named, seen, newly}
-use Rattle.parties.specs.Parties.{energyAccount, unitAccount, accountsIn, Sorted}
+use Rattle.parties.specs.Parties.{energyAccount, accountsIn, Sorted}
 use Rattle.parties.proofs.Once.{seen-each, seen-none, has-named, length-named}
 use Rattle.parties.proofs.Everyone.{is-account, accounts-few}
 
@@ -85,16 +87,17 @@ module _ (name : ℕ → ℕ) (i : ℕ) where
   new-other {n} {a} {b} o l z p q d =
       rw (seen-none name i (name i) (λ k m w. omega (arith, o .keep k (i - 1) (omega arith) (omega arith), o .keep (i - 1) i (omega arith) l, d)))
 
--- t and v are what the searches for the account of unit row u among the unit rows before it and the energy rows say
+-- t and v are what the searches for the account of unit row u say, among the unit rows before it and among the energy rows
 module _ (energy : ℕ → EnergyRow) (n : ℕ) (unit : ℕ → UnitRow) (u : ℕ) {a : ℕ} {t v : Bool} where
-  known : a ≡ unit u .account → t ≡ seen (unitAccount unit) u a → v ≡ seen (energyAccount energy) n a → has (unit u .account) (accountsIn energy n unit u) ≡ (t || v)
+  known : a ≡ unit u .account → t ≡ not (none (keep (λ r. eqb (r .account) a) (rowsOf unit u))) → v ≡ seen (energyAccount energy) n a → has (unit u .account) (accountsIn energy n unit u) ≡ (t || v)
   unfolding seen
-  known e p q = rw (← e) (is-account energy n unit u a ∙ sym (ap₂ _||_ p q))
+  known e p q =
+      rw (← e) (is-account energy n unit u a ∙ sym (ap₂ _||_ (p ∙ sym (some-rows unit (λ r. eqb (r .account) a) u)) q))
 
-  pub unit-known : a ≡ unit u .account → t ≡ seen (unitAccount unit) u a → v ≡ seen (energyAccount energy) n a → (t || v) ≡ true → 0 ≡ newly (has (unit u .account) (accountsIn energy n unit u))
+  pub unit-known : a ≡ unit u .account → t ≡ not (none (keep (λ r. eqb (r .account) a) (rowsOf unit u))) → v ≡ seen (energyAccount energy) n a → (t || v) ≡ true → 0 ≡ newly (has (unit u .account) (accountsIn energy n unit u))
   unit-known e p q k = rw (known e p q, k)
 
-  pub unit-new : a ≡ unit u .account → t ≡ seen (unitAccount unit) u a → v ≡ seen (energyAccount energy) n a → (t || v) ≡ false → 1 ≡ newly (has (unit u .account) (accountsIn energy n unit u))
+  pub unit-new : a ≡ unit u .account → t ≡ not (none (keep (λ r. eqb (r .account) a) (rowsOf unit u))) → v ≡ seen (energyAccount energy) n a → (t || v) ≡ false → 1 ≡ newly (has (unit u .account) (accountsIn energy n unit u))
   unit-new e p q k = rw (known e p q, k)
 
 -- ---- a count, turn by turn

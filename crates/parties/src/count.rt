@@ -56,20 +56,6 @@ fn in_energy(energy: &[u8], n: usize, a: u32) -> bool
     energy_account(energy, i) == a
 }
 
-// Whether one of the first k unit rows names the account. No early exit: a search that always goes on is the faster one here.
-fn in_units(units: &[u8], k: usize, a: u32) -> bool
-    requires { ⌜ k * 20 ≤ length (now units) ⌝ }
-    ensures { λ b. ⌜ b ≡ seen (unitAccount (unitRow (now (units .entry)))) k a ⌝ }
-{
-    let mut found = false;
-    let mut u = 0;
-    while u < k {
-        found = found | (unit_account(units, u) == a);
-        u += 1;
-    }
-    found
-}
-
 // 1 where energy row i is the first of its account, else 0: the row before it tells.
 fn new_energy(energy: &[u8], n: usize, i: usize) -> usize
     requires { ⌜ (n * 24 ≤ length (now energy)) × (i < n) ⌝ }
@@ -107,7 +93,7 @@ fn new_unit(energy: &[u8], n: usize, units: &[u8], u: usize) -> usize
     ensures { λ x. ⌜ x ≡ newly (has (unitRow (now (units .entry)) u .account) (accountsIn (energyRow (now (energy .entry))) n (unitRow (now (units .entry))) u)) ⌝ }
 {
     let a = unit_account(units, u);
-    if in_units(units, u, a) | in_energy(energy, n, a) {
+    if accounts::has_units(units, u, a) | in_energy(energy, n, a) {
         return 0;
     }
     1

@@ -64,16 +64,16 @@ fn gather(energy: &[u8], n: usize, from: usize, p: Part) -> Group
 {
     let account = rows::energy_row(energy, from).account;
     let mut own: u64 = 0;
-    let mut i = from;
-    while i < n {
-        let r = rows::energy_row(energy, i);
+    let mut j = from;
+    while j < n {
+        let r = rows::energy_row(energy, j);
         if r.account != account {
-            return Group { own, end: i };
+            return Group { own, end: j };
         }
         own += energy_in(p, r);
-        i += 1;
+        j += 1;
     }
-    Group { own, end: i }
+    Group { own, end: j }
 }
 
 // The rounded share of what an account owns. Most accounts own nothing in a region but their own, and nothing needs no division.
