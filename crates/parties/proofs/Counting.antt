@@ -1,8 +1,8 @@
 -- Accounts counted row by row: whether a row's account is known, and what the count comes to. Assumes nothing.
 use Prim.Native.Nat.{ℕ, _+_, _-_, _≤_, _<_}
-use mathlib.Core.Path.{_≡_, refl, ap₂, _∙_, sym}
+use mathlib.Core.Path.{_≡_, refl, _∙_, sym}
 use mathlib.Core.List.{List, [], _∷_}
-use mathlib.Core.Bool.{Bool, true, false, cond, not, _||_, or-false}
+use mathlib.Core.Bool.{Bool, true, false, cond, not, or-true, or-false}
 use mathlib.Core.Logic.{⊎-elim}
 use native.Mathlib.Omega.{arith}
 use native.Mathlib.Numerals.{add-one}
@@ -87,18 +87,19 @@ module _ (name : ℕ → ℕ) (i : ℕ) where
   new-other {n} {a} {b} o l z p q d =
       rw (seen-none name i (name i) (λ k m w. omega (arith, o .keep k (i - 1) (omega arith) (omega arith), o .keep (i - 1) i (omega arith) l, d)))
 
--- t and v are what the searches for the account of unit row u say, among the unit rows before it and among the energy rows
-module _ (energy : ℕ → EnergyRow) (n : ℕ) (unit : ℕ → UnitRow) (u : ℕ) {a : ℕ} {t v : Bool} where
-  known : a ≡ unit u .account → t ≡ not (none (keep (λ r. eqb (r .account) a) (rowsOf unit u))) → v ≡ seen (energyAccount energy) n a → has (unit u .account) (accountsIn energy n unit u) ≡ (t || v)
+-- a is the account of unit row u; t and v are what the searches for it say, among the energy rows and among the unit rows before u
+module _ (energy : ℕ → EnergyRow) (n : ℕ) (unit : ℕ → UnitRow) (u : ℕ) {a : ℕ} where
+  pub energy-knows : {t : Bool} → a ≡ unit u .account → t ≡ seen (energyAccount energy) n a → t ≡ true → 0 ≡ newly (has (unit u .account) (accountsIn energy n unit u))
   unfolding seen
-  known e p q =
-      rw (← e) (is-account energy n unit u a ∙ sym (ap₂ _||_ (p ∙ sym (some-rows unit (λ r. eqb (r .account) a) u)) q))
+  energy-knows e p h = rw (← e, is-account energy n unit u a, ← p, h, or-true)
 
-  pub unit-known : a ≡ unit u .account → t ≡ not (none (keep (λ r. eqb (r .account) a) (rowsOf unit u))) → v ≡ seen (energyAccount energy) n a → (t || v) ≡ true → 0 ≡ newly (has (unit u .account) (accountsIn energy n unit u))
-  unit-known e p q k = rw (known e p q, k)
+  pub unit-knows : {v : Bool} → a ≡ unit u .account → v ≡ not (none (keep (λ r. eqb (r .account) a) (rowsOf unit u))) → v ≡ true → 0 ≡ newly (has (unit u .account) (accountsIn energy n unit u))
+  unit-knows e q k = rw (← e, is-account energy n unit u a, some-rows unit (λ r. eqb (r .account) a) u, ← q, k)
 
-  pub unit-new : a ≡ unit u .account → t ≡ not (none (keep (λ r. eqb (r .account) a) (rowsOf unit u))) → v ≡ seen (energyAccount energy) n a → (t || v) ≡ false → 1 ≡ newly (has (unit u .account) (accountsIn energy n unit u))
-  unit-new e p q k = rw (known e p q, k)
+  pub none-knows : {t v : Bool} → a ≡ unit u .account → t ≡ seen (energyAccount energy) n a → t ≡ false → v ≡ not (none (keep (λ r. eqb (r .account) a) (rowsOf unit u))) → v ≡ false → 1 ≡ newly (has (unit u .account) (accountsIn energy n unit u))
+  unfolding seen
+  none-knows e p h q k =
+      rw (← e, is-account energy n unit u a, some-rows unit (λ r. eqb (r .account) a) u, ← q, k, ← p, h)
 
 -- ---- a count, turn by turn
 

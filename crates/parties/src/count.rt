@@ -1,5 +1,5 @@
 // The accounts of a book: each that an energy row or a unit row names, counted once.
-// Only the account of a row is read here, so that no whole row is decoded for a comparison.
+// A row's account is read by itself: no other field is wanted here.
 ghost use mathlib.Core.Path.{_≡_};
 ghost use mathlib.Core.List.{[]};
 ghost use Prim.Native.Nat.{_+_, _*_, _≤_, _<_};
@@ -86,14 +86,18 @@ fn energy_accounts(energy: &[u8], n: usize) -> usize
     count
 }
 
-// 1 where no energy row and no earlier unit row names the account of unit row u, else 0.
+// 1 where no energy row and no earlier unit row names the account of unit row u, else 0. The search by halves comes first: most
+// accounts are found by it, and only the others are looked for row by row.
 fn new_unit(energy: &[u8], n: usize, units: &[u8], u: usize) -> usize
     requires { ⌜ (n * 24 ≤ length (now energy)) × ((u + 1) * 20 ≤ length (now units)) ⌝ }
     requires { ⌜ Sorted (energyRow (now energy)) n ⌝ }
     ensures { λ x. ⌜ x ≡ newly (has (unitRow (now (units .entry)) u .account) (accountsIn (energyRow (now (energy .entry))) n (unitRow (now (units .entry))) u)) ⌝ }
 {
     let a = unit_account(units, u);
-    if accounts::has_units(units, u, a) | in_energy(energy, n, a) {
+    if in_energy(energy, n, a) {
+        return 0;
+    }
+    if accounts::has_units(units, u, a) {
         return 0;
     }
     1

@@ -76,7 +76,7 @@ fn gather(energy: &[u8], n: usize, from: usize, p: Part) -> Group
     Group { own, end: j }
 }
 
-// The rounded share of what an account owns. Most accounts own nothing in a region but their own, and nothing needs no division.
+// The rounded share of what an account owns. One without energy in the part's regions owns nothing, and needs no division.
 fn share_of(p: Part, own: u64) -> u64
     requires { ⌜ (p .amount ≤ 50000000000) × ((own ≤ p .whole) × ((0 < p .whole) × (p .whole ≤ 100000000))) ⌝ }
     ensures { λ x. ⌜ x ≡ roundN (p .amount * own) (p .whole) ⌝ }

@@ -23,13 +23,13 @@ energy-row-requires-2 : tie.Need-energy-row-requires-2 Inv-loop μ-loop
 energy-row-requires-2 c κs = search needs
 
 returns : tie.Need-returns Inv-loop μ-loop
-returns c = gather-stop _ _ _ (c .before .before .before .before .before .before .before .pre .1 .0) (c .before .before .before .before .loop .inv) (omega arith) (c .before .before .energy-row2 .ensures) (c .if1 .taken)
+returns c = gather-stop _ _ _ (c .before .before .before .before .before .before .before .pre .1 .0) (c .before .before .before .before .loop .inv) (omega arith) (c .before .before .energy-row2 .ensures) (λ z. omega arith)
 
 energy-in-requires : tie.Need-energy-in-requires Inv-loop μ-loop
 energy-in-requires c κs = rw (c .before .before .energy-row2 .ensures) (c .before .before .before .before .before .before .before .pre .1 .0 .rules _ (omega arith))
 
 loop-again : tie.Need-loop-again Inv-loop μ-loop
-loop-again c = gather-more _ _ _ (c .before .before .before .before .before .loop .inv) (omega arith) (c .before .before .before .energy-row2 .ensures) (c .before .if1 .left) (c .energy-in .ensures)
+loop-again c = gather-more _ _ _ (c .before .before .before .before .before .loop .inv) (omega arith) (c .before .before .before .energy-row2 .ensures) (omega arith) (c .energy-in .ensures)
 
 add-own : tie.Need-add-own Inv-loop μ-loop
 add-own c = omega (arith, gather-fits _ _ _ (c .before .before .before .before .before .before .before .before .pre .1 .0) (loop-again c))
