@@ -120,11 +120,11 @@ module _ (name : ℕ → ℕ) (l : List ℕ) where
   pub count-few : (i : ℕ) {c : ℕ} → c ≡ length (named name i l) → c ≤ i + length l
   count-few i e = rw e (length-named name i l)
 
--- an accepted book has at most 1,024 energy rows and 600 unit rows
-pub accounts-fit : {energy : ℕ → EnergyRow} {n : ℕ} (unit : ℕ → UnitRow) (u : ℕ) {c : ℕ} → Sorted energy n → u ≤ 600 → c ≡ length (accountsIn energy n unit u) → c ≤ 1624
-accounts-fit {energy} {n} unit u s l e = rw e (omega (arith, s .few, accounts-few energy n unit u))
-
 -- of records alone, by what was seen before
 pub count-seen : (name : ℕ → ℕ) (i : ℕ) {c x : ℕ} → c ≡ length (named name i []) → x ≡ newly (seen name i (name i)) → c + x ≡ length (named name (i + 1) [])
 unfolding has
 count-seen name i p q = count-more name [] i p (rw (has-named name i [] (name i), or-false) q)
+
+-- an accepted book has at most 1,024 energy rows and 600 unit rows
+pub accounts-fit : {energy : ℕ → EnergyRow} {n : ℕ} (unit : ℕ → UnitRow) (u : ℕ) {c : ℕ} → Sorted energy n → u ≤ 600 → c ≡ length (accountsIn energy n unit u) → c ≤ 1624
+accounts-fit {energy} {n} unit u s l e = rw e (omega (arith, s .few, accounts-few energy n unit u))

@@ -7,7 +7,7 @@ ghost use lib.ListN.{length};
 ghost use Rattle.sections.specs.Walk.{Stands};
 ghost use Rattle.records.specs.Rows.{energyRow, unitRow};
 ghost use Rattle.parties.specs.Once.{has, named, seen, newly};
-ghost use Rattle.parties.specs.Parties.{energyAccount, unitAccount, accountsIn, Sorted};
+ghost use Rattle.parties.specs.Parties.{energyAccount, accountsIn, Sorted};
 use ground::read;
 
 fn energy_account(energy: &[u8], i: usize) -> u32
@@ -86,8 +86,8 @@ fn energy_accounts(energy: &[u8], n: usize) -> usize
     count
 }
 
-// 1 where no energy row and no earlier unit row names the account of unit row u, else 0. The search by halves comes first: most
-// accounts are found by it, and only the others are looked for row by row.
+// 1 where no energy row and no earlier unit row names the account of unit row u, else 0. The search by halves comes first,
+// so that only an account without energy is looked for row by row.
 fn new_unit(energy: &[u8], n: usize, units: &[u8], u: usize) -> usize
     requires { ⌜ (n * 24 ≤ length (now energy)) × ((u + 1) * 20 ≤ length (now units)) ⌝ }
     requires { ⌜ Sorted (energyRow (now energy)) n ⌝ }
