@@ -1,8 +1,8 @@
 -- Accounts counted row by row: whether a row's account is known, and what the count comes to. Assumes nothing.
 use Prim.Native.Nat.{ℕ, _+_, _-_, _≤_, _<_}
-use mathlib.Core.Path.{_≡_, refl, ap₂, _∙_, sym}
+use mathlib.Core.Path.{_≡_, refl, _∙_, sym}
 use mathlib.Core.List.{List, [], _∷_}
-use mathlib.Core.Bool.{Bool, true, false, cond, _||_, or-false}
+use mathlib.Core.Bool.{Bool, true, false, cond, not, or-true, or-false}
 use mathlib.Core.Logic.{⊎-elim}
 use native.Mathlib.Omega.{arith}
 use native.Mathlib.Numerals.{add-one}
@@ -16,8 +16,10 @@ use Rattle.sections.specs.Walk.{Stands}
 use Rattle.sections.proofs.Search.{lt-or-ge}
 use Rattle.records.specs.declared.rows.UnitRow.{UnitRow}
 use Rattle.records.specs.declared.rows.EnergyRow.{EnergyRow}
+use Rattle.accounts.specs.Rows.{rowsOf, keep, none}
+use Rattle.accounts.proofs.Lists.{some-rows}
 use Rattle.parties.specs.Once.{has, joinNew, named, seen, newly}
-use Rattle.parties.specs.Parties.{energyAccount, unitAccount, accountsIn, Sorted}
+use Rattle.parties.specs.Parties.{energyAccount, accountsIn, Sorted}
 use Rattle.parties.proofs.Once.{seen-each, seen-none, has-named, length-named}
 use Rattle.parties.proofs.Everyone.{is-account, accounts-few}
 
@@ -85,17 +87,19 @@ module _ (name : ℕ → ℕ) (i : ℕ) where
   new-other {n} {a} {b} o l z p q d =
       rw (seen-none name i (name i) (λ k m w. omega (arith, o .keep k (i - 1) (omega arith) (omega arith), o .keep (i - 1) i (omega arith) l, d)))
 
--- t and v are what the searches for the account of unit row u among the unit rows before it and the energy rows say
-module _ (energy : ℕ → EnergyRow) (n : ℕ) (unit : ℕ → UnitRow) (u : ℕ) {a : ℕ} {t v : Bool} where
-  known : a ≡ unit u .account → t ≡ seen (unitAccount unit) u a → v ≡ seen (energyAccount energy) n a → has (unit u .account) (accountsIn energy n unit u) ≡ (t || v)
+-- a is the account of unit row u; t and v are what the searches for it say, among the energy rows and among the unit rows before u
+module _ (energy : ℕ → EnergyRow) (n : ℕ) (unit : ℕ → UnitRow) (u : ℕ) {a : ℕ} where
+  pub energy-knows : {t : Bool} → a ≡ unit u .account → t ≡ seen (energyAccount energy) n a → t ≡ true → 0 ≡ newly (has (unit u .account) (accountsIn energy n unit u))
   unfolding seen
-  known e p q = rw (← e) (is-account energy n unit u a ∙ sym (ap₂ _||_ p q))
+  energy-knows e p h = rw (← e, is-account energy n unit u a, ← p, h, or-true)
 
-  pub unit-known : a ≡ unit u .account → t ≡ seen (unitAccount unit) u a → v ≡ seen (energyAccount energy) n a → (t || v) ≡ true → 0 ≡ newly (has (unit u .account) (accountsIn energy n unit u))
-  unit-known e p q k = rw (known e p q, k)
+  pub unit-knows : {v : Bool} → a ≡ unit u .account → v ≡ not (none (keep (λ r. eqb (r .account) a) (rowsOf unit u))) → v ≡ true → 0 ≡ newly (has (unit u .account) (accountsIn energy n unit u))
+  unit-knows e q k = rw (← e, is-account energy n unit u a, some-rows unit (λ r. eqb (r .account) a) u, ← q, k)
 
-  pub unit-new : a ≡ unit u .account → t ≡ seen (unitAccount unit) u a → v ≡ seen (energyAccount energy) n a → (t || v) ≡ false → 1 ≡ newly (has (unit u .account) (accountsIn energy n unit u))
-  unit-new e p q k = rw (known e p q, k)
+  pub none-knows : {t v : Bool} → a ≡ unit u .account → t ≡ seen (energyAccount energy) n a → t ≡ false → v ≡ not (none (keep (λ r. eqb (r .account) a) (rowsOf unit u))) → v ≡ false → 1 ≡ newly (has (unit u .account) (accountsIn energy n unit u))
+  unfolding seen
+  none-knows e p h q k =
+      rw (← e, is-account energy n unit u a, some-rows unit (λ r. eqb (r .account) a) u, ← q, k, ← p, h)
 
 -- ---- a count, turn by turn
 
@@ -116,11 +120,11 @@ module _ (name : ℕ → ℕ) (l : List ℕ) where
   pub count-few : (i : ℕ) {c : ℕ} → c ≡ length (named name i l) → c ≤ i + length l
   count-few i e = rw e (length-named name i l)
 
--- an accepted book has at most 1,024 energy rows and 600 unit rows
-pub accounts-fit : {energy : ℕ → EnergyRow} {n : ℕ} (unit : ℕ → UnitRow) (u : ℕ) {c : ℕ} → Sorted energy n → u ≤ 600 → c ≡ length (accountsIn energy n unit u) → c ≤ 1624
-accounts-fit {energy} {n} unit u s l e = rw e (omega (arith, s .few, accounts-few energy n unit u))
-
 -- of records alone, by what was seen before
 pub count-seen : (name : ℕ → ℕ) (i : ℕ) {c x : ℕ} → c ≡ length (named name i []) → x ≡ newly (seen name i (name i)) → c + x ≡ length (named name (i + 1) [])
 unfolding has
 count-seen name i p q = count-more name [] i p (rw (has-named name i [] (name i), or-false) q)
+
+-- an accepted book has at most 1,024 energy rows and 600 unit rows
+pub accounts-fit : {energy : ℕ → EnergyRow} {n : ℕ} (unit : ℕ → UnitRow) (u : ℕ) {c : ℕ} → Sorted energy n → u ≤ 600 → c ≡ length (accountsIn energy n unit u) → c ≤ 1624
+accounts-fit {energy} {n} unit u s l e = rw e (omega (arith, s .few, accounts-few energy n unit u))

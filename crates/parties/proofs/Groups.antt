@@ -5,10 +5,10 @@ use mathlib.Core.List.{[], _∷_}
 use mathlib.Core.Bool.{Bool, true, false, cond}
 use mathlib.Core.Logic.{⊎-elim}
 use native.Mathlib.Omega.{arith}
-use native.Mathlib.Nat.{eq-or-lt-of-le, not-suc-le-zero, le-of-suc-le-suc, le-refl, le-trans, le-of-eq, mul-le-mul, mul-zero, add-comm}
+use native.Mathlib.Nat.{eq-or-lt-of-le, not-suc-le-zero, le-of-suc-le-suc, le-refl, le-trans, le-of-eq, mul-le-mul, add-comm}
 use borrow.Author.Tests.{eq-eqb}
 use Rattle.ground.specs.Round.{roundN}
-use Rattle.ground.proofs.Rounding.{round-zero, round-share}
+use Rattle.ground.proofs.Rounding.{round-share}
 use Rattle.sections.specs.Total.{total, keyed}
 use Rattle.sections.specs.Walk.{Stands, Past}
 use Rattle.sections.proofs.Total.{total-bound, total-under, keyed-le}
@@ -52,10 +52,6 @@ module _ (p : Part) (r : EnergyRow) {k : ℕ} {t : Bool} where
   unfolding energyIn
   energy-outside q e h = rw (rw q at (sym e ∙ h))
 
--- a share of nothing
-pub share-nothing : (amount whole : ℕ) {own : ℕ} → own ≡ 0 → 0 ≡ roundN (amount * own) whole
-share-nothing amount whole e = rw (e, mul-zero) (sym (round-zero whole))
-
 module _ (p : Part) (energy : ℕ → EnergyRow) (n : ℕ) where
   abbrev counted : ℕ → ℕ
   counted i = energyIn p (energy i)
@@ -68,9 +64,11 @@ module _ (p : Part) (energy : ℕ → EnergyRow) (n : ℕ) where
       (total-under _ _ n (λ k l. keyed-le (energyAccount energy) a counted (counted k) k (le-refl (counted k))))
       (le-of-eq (sym (h .whole)))
 
+  -- nor does a group
   pub own-fits : {i : ℕ} {g : Group} → Shareable p energy n → GroupIs p energy n i g → g .own ≤ p .whole
   own-fits {i} h g = rw (g .own) (own-small h (energy i .account))
 
+  -- so that its share is no more than the amount
   pub share-small : Shareable p energy n → (a : ℕ) → shareIn p energy n a ≤ p .amount
   unfolding shareIn
   share-small h a = round-share (p .amount) (ownIn p energy n a) (p .whole) (own-small h a)
@@ -96,6 +94,7 @@ module _ (p : Part) (energy : ℕ → EnergyRow) (n : ℕ) where
       let w : energy i .account ≡ a = sym (ap (λ (r : EnergyRow). r .account) e) ∙ q in
       record { first = g .first; run = run-next _ n a i (g .run) l w; sum = sum-more _ n a counted i (g .sum) w (d ∙ ap (energyIn p) e) }
 
+  -- 1,024 rows of at most 40,000,000
   pub gather-fits : {from a i own : ℕ} → Sorted energy n → Gathered from a i own → own ≤ 50000000000
   gather-fits {from} {a} {i} {own} s g =
       let high = g .run .high in
@@ -103,6 +102,7 @@ module _ (p : Part) (energy : ℕ → EnergyRow) (n : ℕ) where
       rw (g .sum)
       (omega (arith, total-bound (keyed (energyAccount energy) a counted) 40000000 i (λ k l. keyed-le (energyAccount energy) a counted 40000000 k (energy-small p (energy k) (s .rules k (omega arith))))))
 
+  -- no row of the account is left
   whole : {from a i own : ℕ} → Gathered from a i own → Past (energyAccount energy) n a i → GroupIs p energy n from (record { own = own; end = i })
   unfolding ownIn keyed
   whole {from} {a} {i} {own} g b =
@@ -118,7 +118,7 @@ module _ (p : Part) (energy : ℕ → EnergyRow) (n : ℕ) where
   gather-end {from} {a} {i} {own} g q = whole g (run-done _ n a i (g .run) q)
 
 -- the rows from i on are one account's, which none before names: they add its name
-pub names-run : (name : ℕ → ℕ) (i j : ℕ) → i < j → ((k : ℕ) → i ≤ k → k < j → name k ≡ name i) → seen name i (name i) ≡ false → named name j [] ≡ (name i ∷ named name i [])
+names-run : (name : ℕ → ℕ) (i j : ℕ) → i < j → ((k : ℕ) → i ≤ k → k < j → name k ≡ name i) → seen name i (name i) ≡ false → named name j [] ≡ (name i ∷ named name i [])
 unfolding named joinNew has
 names-run name i zero l h s = absurd (not-suc-le-zero l)
 names-run name i (suc j) l h s =

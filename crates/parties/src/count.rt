@@ -1,5 +1,5 @@
 // The accounts of a book: each that an energy row or a unit row names, counted once.
-// Only the account of a row is read here, so that no whole row is decoded for a comparison.
+// A row's account is read by itself: no other field is wanted here.
 ghost use mathlib.Core.Path.{_≡_};
 ghost use mathlib.Core.List.{[]};
 ghost use Prim.Native.Nat.{_+_, _*_, _≤_, _<_};
@@ -7,7 +7,7 @@ ghost use lib.ListN.{length};
 ghost use Rattle.sections.specs.Walk.{Stands};
 ghost use Rattle.records.specs.Rows.{energyRow, unitRow};
 ghost use Rattle.parties.specs.Once.{has, named, seen, newly};
-ghost use Rattle.parties.specs.Parties.{energyAccount, unitAccount, accountsIn, Sorted};
+ghost use Rattle.parties.specs.Parties.{energyAccount, accountsIn, Sorted};
 use ground::read;
 
 fn energy_account(energy: &[u8], i: usize) -> u32
@@ -56,20 +56,6 @@ fn in_energy(energy: &[u8], n: usize, a: u32) -> bool
     energy_account(energy, i) == a
 }
 
-// Whether one of the first k unit rows names the account. No early exit: a search that always goes on is the faster one here.
-fn in_units(units: &[u8], k: usize, a: u32) -> bool
-    requires { ⌜ k * 20 ≤ length (now units) ⌝ }
-    ensures { λ b. ⌜ b ≡ seen (unitAccount (unitRow (now (units .entry)))) k a ⌝ }
-{
-    let mut found = false;
-    let mut u = 0;
-    while u < k {
-        found = found | (unit_account(units, u) == a);
-        u += 1;
-    }
-    found
-}
-
 // 1 where energy row i is the first of its account, else 0: the row before it tells.
 fn new_energy(energy: &[u8], n: usize, i: usize) -> usize
     requires { ⌜ (n * 24 ≤ length (now energy)) × (i < n) ⌝ }
@@ -100,14 +86,18 @@ fn energy_accounts(energy: &[u8], n: usize) -> usize
     count
 }
 
-// 1 where no energy row and no earlier unit row names the account of unit row u, else 0.
+// 1 where no energy row and no earlier unit row names the account of unit row u, else 0. The search by halves comes first,
+// so that only an account without energy is looked for row by row.
 fn new_unit(energy: &[u8], n: usize, units: &[u8], u: usize) -> usize
     requires { ⌜ (n * 24 ≤ length (now energy)) × ((u + 1) * 20 ≤ length (now units)) ⌝ }
     requires { ⌜ Sorted (energyRow (now energy)) n ⌝ }
     ensures { λ x. ⌜ x ≡ newly (has (unitRow (now (units .entry)) u .account) (accountsIn (energyRow (now (energy .entry))) n (unitRow (now (units .entry))) u)) ⌝ }
 {
     let a = unit_account(units, u);
-    if in_units(units, u, a) | in_energy(energy, n, a) {
+    if in_energy(energy, n, a) {
+        return 0;
+    }
+    if accounts::has_units(units, u, a) {
         return 0;
     }
     1

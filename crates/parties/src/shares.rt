@@ -64,19 +64,19 @@ fn gather(energy: &[u8], n: usize, from: usize, p: Part) -> Group
 {
     let account = rows::energy_row(energy, from).account;
     let mut own: u64 = 0;
-    let mut i = from;
-    while i < n {
-        let r = rows::energy_row(energy, i);
+    let mut j = from;
+    while j < n {
+        let r = rows::energy_row(energy, j);
         if r.account != account {
-            return Group { own, end: i };
+            return Group { own, end: j };
         }
         own += energy_in(p, r);
-        i += 1;
+        j += 1;
     }
-    Group { own, end: i }
+    Group { own, end: j }
 }
 
-// The rounded share of what an account owns. Most accounts own nothing in a region but their own, and nothing needs no division.
+// The rounded share of what an account owns. One without energy in the part's regions owns nothing, and needs no division.
 fn share_of(p: Part, own: u64) -> u64
     requires { ⌜ (p .amount ≤ 50000000000) × ((own ≤ p .whole) × ((0 < p .whole) × (p .whole ≤ 100000000))) ⌝ }
     ensures { λ x. ⌜ x ≡ roundN (p .amount * own) (p .whole) ⌝ }

@@ -2,11 +2,11 @@
 use Prim.Native.Nat.{_≤_, _-_}
 use mathlib.Core.Path.{_≡_, _∙_}
 use native.Mathlib.Omega.{arith}
+use borrow.Author.Needs.{needs}
 use lib.ListN.{length}
 use Rattle.records.specs.Rows.{energyRow, unitRow}
 use Rattle.parties.specs.Parties.{accountsIn}
 use Rattle.parties.proofs.Counting.{count-none, count-more, accounts-fit}
-use borrow.Author.Needs.{needs}
 use Rattle.parties.proofs.count.all_accounts.Statement.{statement}
 use Rattle.parties.proofs.count.all_accounts.Tie as tie
 

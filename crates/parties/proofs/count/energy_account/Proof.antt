@@ -1,6 +1,6 @@
 -- `parties::count::energy_account` meets its contract. The account stands first in an energy row. Assumes nothing.
-use Rattle.records.specs.Rows.{energyRow}
 use borrow.Author.Needs.{needs}
+use Rattle.records.specs.Rows.{energyRow}
 use Rattle.parties.proofs.count.energy_account.Statement.{statement}
 use Rattle.parties.proofs.count.energy_account.Tie as tie
 

@@ -3,12 +3,12 @@ use Prim.Native.Nat.{_≤_, _-_}
 use mathlib.Core.Path.{_≡_}
 use mathlib.Core.List.{[]}
 use native.Mathlib.Omega.{arith}
+use borrow.Author.Needs.{needs}
 use lib.ListN.{length}
 use Rattle.records.specs.Rows.{energyRow}
 use Rattle.parties.specs.Once.{named}
 use Rattle.parties.specs.Parties.{energyAccount}
 use Rattle.parties.proofs.Counting.{count-none, count-seen, count-few}
-use borrow.Author.Needs.{needs}
 use Rattle.parties.proofs.count.energy_accounts.Statement.{statement}
 use Rattle.parties.proofs.count.energy_accounts.Tie as tie
 

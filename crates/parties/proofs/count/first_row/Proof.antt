@@ -1,10 +1,10 @@
 -- `parties::count::first_row` meets its contract. The invariant, `Between`: rows below low are below the account, and rows from high on are not. The measure is what lies between. Assumes nothing.
 use Prim.Native.Nat.{_-_}
 use native.Mathlib.Omega.{arith}
+use borrow.Author.Needs.{needs}
 use Rattle.records.specs.Rows.{energyRow}
 use Rattle.parties.specs.Parties.{energyAccount}
 use Rattle.parties.proofs.Counting.{in-order, Between, between-start, between-up, between-down, between-end}
-use borrow.Author.Needs.{needs}
 use Rattle.parties.proofs.count.first_row.Statement.{statement}
 use Rattle.parties.proofs.count.first_row.Tie as tie
 

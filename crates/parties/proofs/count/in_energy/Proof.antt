@@ -1,6 +1,6 @@
 -- `parties::count::in_energy` meets its contract. The first row that is not below the account is the account's, or no row is. Assumes nothing.
-use Rattle.parties.proofs.Counting.{in-order, found, found-none}
 use borrow.Author.Needs.{needs}
+use Rattle.parties.proofs.Counting.{in-order, found, found-none}
 use Rattle.parties.proofs.count.in_energy.Statement.{statement}
 use Rattle.parties.proofs.count.in_energy.Tie as tie
 

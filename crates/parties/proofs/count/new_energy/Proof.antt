@@ -1,6 +1,6 @@
 -- `parties::count::new_energy` meets its contract. In rows in order, the row before tells whether an account was seen. Assumes nothing.
-use Rattle.parties.proofs.Counting.{in-order, new-first, new-same, new-other}
 use borrow.Author.Needs.{needs}
+use Rattle.parties.proofs.Counting.{in-order, new-first, new-same, new-other}
 use Rattle.parties.proofs.count.new_energy.Statement.{statement}
 use Rattle.parties.proofs.count.new_energy.Tie as tie
 

@@ -1,6 +1,6 @@
 -- `parties::count::unit_account` meets its contract. The account stands third in a unit row. Assumes nothing.
-use Rattle.records.specs.Rows.{unitRow}
 use borrow.Author.Needs.{needs}
+use Rattle.records.specs.Rows.{unitRow}
 use Rattle.parties.proofs.count.unit_account.Statement.{statement}
 use Rattle.parties.proofs.count.unit_account.Tie as tie
 

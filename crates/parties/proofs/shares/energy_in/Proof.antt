@@ -1,6 +1,6 @@
 -- `parties::shares::energy_in` meets its contract. The bit of the row's region decides. Assumes nothing.
-use Rattle.parties.proofs.Groups.{energy-inside, energy-outside}
 use borrow.Author.Needs.{needs}
+use Rattle.parties.proofs.Groups.{energy-inside, energy-outside}
 use Rattle.parties.proofs.shares.energy_in.Statement.{statement}
 use Rattle.parties.proofs.shares.energy_in.Tie as tie
 

@@ -1,17 +1,17 @@
 -- `parties::shares::gather` meets its contract. The invariant, `Gathered`: the sum is what the rows so far of the account own. It ends at another account's row or behind the last, and either way no row of the account is left. Assumes nothing.
 use Prim.Native.Nat.{_-_}
 use native.Mathlib.Omega.{arith}
+use borrow.Author.Needs.{needs}
 use Rattle.records.specs.Rows.{energyRow}
 use Rattle.parties.proofs.Groups.{Gathered, gather-start, gather-more, gather-fits, gather-stop, gather-end}
-use borrow.Author.Needs.{needs}
 use Rattle.parties.proofs.shares.gather.Statement.{statement}
 use Rattle.parties.proofs.shares.gather.Tie as tie
 
 abbrev Inv-loop : tie.InvT-loop
-Inv-loop energy n from p account own₀ i₀ own i = Gathered p (energyRow energy) n from account i own
+Inv-loop energy n from p account own₀ j₀ own j = Gathered p (energyRow energy) n from account j own
 
 abbrev μ-loop : tie.MeasureT-loop
-μ-loop energy n from p account own₀ i₀ own i = n - i
+μ-loop energy n from p account own₀ j₀ own j = n - j
 
 energy-row-requires : tie.Need-energy-row-requires Inv-loop μ-loop
 energy-row-requires c κs = search needs
@@ -23,19 +23,19 @@ energy-row-requires-2 : tie.Need-energy-row-requires-2 Inv-loop μ-loop
 energy-row-requires-2 c κs = search needs
 
 returns : tie.Need-returns Inv-loop μ-loop
-returns c = gather-stop _ _ _ (c .before .before .before .before .before .before .before .pre .1 .0) (c .before .before .before .before .loop .inv) (c .before .before .before .loop-test .taken) (c .before .before .energy-row2 .ensures) (c .if1 .taken)
+returns c = gather-stop _ _ _ (c .before .before .before .before .before .before .before .pre .1 .0) (c .before .before .before .before .loop .inv) (omega arith) (c .before .before .energy-row2 .ensures) (λ z. omega arith)
 
 energy-in-requires : tie.Need-energy-in-requires Inv-loop μ-loop
-energy-in-requires c κs = rw (c .before .before .energy-row2 .ensures) (c .before .before .before .before .before .before .before .pre .1 .0 .rules _ (c .before .before .before .loop-test .taken))
+energy-in-requires c κs = rw (c .before .before .energy-row2 .ensures) (c .before .before .before .before .before .before .before .pre .1 .0 .rules _ (omega arith))
 
 loop-again : tie.Need-loop-again Inv-loop μ-loop
-loop-again c = gather-more _ _ _ (c .before .before .before .before .before .loop .inv) (c .before .before .before .before .loop-test .taken) (c .before .before .before .energy-row2 .ensures) (c .before .if1 .left) (c .energy-in .ensures)
+loop-again c = gather-more _ _ _ (c .before .before .before .before .before .loop .inv) (omega arith) (c .before .before .before .energy-row2 .ensures) (omega arith) (c .energy-in .ensures)
 
 add-own : tie.Need-add-own Inv-loop μ-loop
 add-own c = omega (arith, gather-fits _ _ _ (c .before .before .before .before .before .before .before .before .pre .1 .0) (loop-again c))
 
-add-i : tie.Need-add-i Inv-loop μ-loop
-add-i c = search needs
+add-j : tie.Need-add-j Inv-loop μ-loop
+add-j c = search needs
 
 loop-less : tie.Need-loop-less Inv-loop μ-loop
 loop-less c = search needs
@@ -55,7 +55,7 @@ gather-spec =
     returns
     energy-in-requires
     add-own
-    add-i
+    add-j
     loop-less
     loop-again
     returns-2)

@@ -1,6 +1,6 @@
 -- `parties::shares::share_of` meets its contract. A share of nothing is 0. Assumes nothing.
-use Rattle.parties.proofs.Groups.{share-nothing}
 use borrow.Author.Needs.{needs}
+use Rattle.parties.proofs.Everyone.{share-nothing}
 use Rattle.parties.proofs.shares.share_of.Statement.{statement}
 use Rattle.parties.proofs.shares.share_of.Tie as tie
 
