@@ -3,3 +3,4 @@ pub mod Shareables
 pub mod Own
 pub mod Kept
 pub mod PoolLines
+pub mod Balances
