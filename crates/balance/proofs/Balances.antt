@@ -62,12 +62,13 @@ module _ {A : Type 0} where
   sum-total f zero l = sum-none l
   sum-total f (suc n) l = sum-plus (λ a. total (λ g. f g a) n) (f n) l ∙ ap (λ (x : ℕ). x + sumOf (f n) l) (sum-total f n l)
 
-twice : (t : ℕ → Bool) (n : ℕ) → total (λ g. cond (t g) 0 2) n ≡ 2 * total (λ g. cond (t g) 0 1) n
+-- the same number for each record that a test does not exclude
+pub count-times : (t : ℕ → Bool) (x n : ℕ) → total (λ g. cond (t g) 0 x) n ≡ total (λ g. cond (t g) 0 1) n * x
 unfolding total
-twice t zero = refl
-twice t (suc n) = by (t n) (twice t n)
+count-times t x zero = omega arith
+count-times t x (suc n) = by (t n) (count-times t x n)
   where
-    by : (b : Bool) → total (λ g. cond (t g) 0 2) n ≡ 2 * total (λ g. cond (t g) 0 1) n → total (λ g. cond (t g) 0 2) n + cond b 0 2 ≡ 2 * (total (λ g. cond (t g) 0 1) n + cond b 0 1)
+    by : (b : Bool) → total (λ g. cond (t g) 0 x) n ≡ total (λ g. cond (t g) 0 1) n * x → total (λ g. cond (t g) 0 x) n + cond b 0 x ≡ (total (λ g. cond (t g) 0 1) n + cond b 0 1) * x
     by true e = omega arith
     by false e = omega arith
 
@@ -99,7 +100,7 @@ module _ (B : Book) where
   units-once id f = each-once-unit (B .energy) (B .header .energies) (B .unit) (B .header .units) (λ u. keyed (keyOf (B .unit)) id (λ u. f (B .unit u)) u)
 
   -- and are those over the accounts that energy rows name
-  shares-once : (p : Part) → Shareable p (B .energy) (B .header .energies) → sumOf (shareIn p (B .energy) (B .header .energies)) (accountsOf B) ≡ partSum p (B .energy) (B .header .energies)
+  pub shares-once : (p : Part) → Shareable p (B .energy) (B .header .energies) → sumOf (shareIn p (B .energy) (B .header .energies)) (accountsOf B) ≡ partSum p (B .energy) (B .header .energies)
   shares-once p s = sym (part-everyone p (B .energy) (B .header .energies) (B .unit) (B .header .units) (s .above))
 
 -- ---- the balance of each kind of pool
@@ -123,8 +124,7 @@ module _ {B : Book} (p : Promise B) where
   contract-count : (i : ℕ) → sumOf (λ a. total (λ g. cond (eqb (factorOf (B .contract i .factors) g) 0) 0 2) 5) (accountsOf B) ≡ benefiting (B .contract i) * (2 * length (accountsOf B))
   unfolding benefiting
   contract-count i =
-      let n = total (λ g. cond (eqb (factorOf (B .contract i .factors) g) 0) 0 1) 5 in
-      sum-each _ (accountsOf B) ∙ rw (twice (λ g. eqb (factorOf (B .contract i .factors) g) 0) 5) (omega arith)
+      sum-each _ (accountsOf B) ∙ rw (count-times (λ g. eqb (factorOf (B .contract i .factors) g) 0) 2 5) (omega arith)
 
   region-sum : (i : ℕ) → i < B .header .contracts → (g : ℕ) → g < 5 → sumOf (λ a. cond (eqb (factorOf (B .contract i .factors) g) 0) 0 (regionShare B a (B .contract i) g)) (accountsOf B) ≡ regionSum B (B .contract i) g
   unfolding regionSum

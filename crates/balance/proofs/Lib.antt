@@ -4,3 +4,6 @@ pub mod Own
 pub mod Kept
 pub mod PoolLines
 pub mod Balances
+pub mod Accounts
+pub mod Found
+pub mod Closeness
