@@ -40,7 +40,7 @@ use Rattle.balance.proofs.PoolLines.{ownUnits, constraintShare, regionS
 -- ---- sums over a list
 
 module _ {A : Type 0} where
-  sum-same : (f g : A → ℕ) (l : List A) → ((a : A) → f a ≡ g a) → sumOf f l ≡ sumOf g l
+  pub sum-same : (f g : A → ℕ) (l : List A) → ((a : A) → f a ≡ g a) → sumOf f l ≡ sumOf g l
   unfolding sumOf
   sum-same f g [] h = refl
   sum-same f g (a ∷ l) h = ap₂ _+_ (h a) (sum-same f g l h)

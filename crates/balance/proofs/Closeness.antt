@@ -29,6 +29,14 @@ less-size a (suc b) n h k = by (ltb a (suc b)) refl
 pub size-within : (x c d n : ℕ) → Within n (x + c) d → 2 * natAbs (pos x +ℤ less c d) ≤ n
 size-within x c d n w = rw (← +ℤ-assoc (pos x) (pos c) (negℤ (pos d))) (less-size (x + c) d n (omega (arith, w .down)) (omega (arith, w .up)))
 
+-- with nothing credited, and nothing rounded before
+pub within-plain : {n p s : ℕ} → Within n p s → Within (n + 0) (p + 0) s
+within-plain w = record { up = omega (arith, w .up); down = omega (arith, w .down) }
+
+-- two halves of an amount, an odd one rounded up
+pub within-halves : (r n : ℕ) {s t : ℕ} → Within n ((r + 1) / 2) s → Within n (r - (r + 1) / 2) t → Within (2 * n) r (s + t)
+within-halves r n v w = record { up = omega (arith, v .up, w .up); down = omega (arith, v .down, w .down) }
+
 pub within-total : (n p s : ℕ → ℕ) (m : ℕ) → ((g : ℕ) → g < m → Within (n g) (p g) (s g)) → Within (total n m) (total p m) (total s m)
 unfolding total
 within-total n p s zero h = record { up = omega arith; down = omega arith }
@@ -45,7 +53,7 @@ pub record Close (pool n plus minus credit charge : ℕ) : Type 0 where
   pub down : 2000000 * credit + 2 * (pool * minus) ≤ 2000000 * charge + 2 * (pool * plus) + 1000000 * n
 
 -- nothing is shared
-nothing : (pool factor : ℕ) → factor ≡ 0 → roundN (pool * factor) 1000000 ≡ 0
+pub nothing : (pool factor : ℕ) → factor ≡ 0 → roundN (pool * factor) 1000000 ≡ 0
 nothing pool factor e = ap (λ (x : ℕ). roundN x 1000000) (ap (λ (x : ℕ). pool * x) e ∙ mul-zero pool) ∙ round-zero 1000000
 
 module _ (pool : ℕ) where

@@ -7,3 +7,4 @@ pub mod Balances
 pub mod Accounts
 pub mod Found
 pub mod Closeness
+pub mod Closes
