@@ -8,7 +8,6 @@ use borrow.Author.Tests.{eqb-false}
 use lib.Dec.{eqb}
 use lib.IntN.{ℤ, pos}
 use lib.ListN.{length}
-use Rattle.ground.specs.Round.{roundN}
 use Rattle.ground.specs.Sign.{less}
 use Rattle.ground.proofs.Sizes.{less-plus}
 use Rattle.sections.specs.Total.{total, keyed}
@@ -19,7 +18,6 @@ use Rattle.factors.specs.Naming.{keyOf}
 use Rattle.factors.specs.Factors.{sumOver}
 use Rattle.book.specs.Book.{Book}
 use Rattle.book.specs.Accepted.{Promise}
-use Rattle.amounts.specs.Pools.{poolsOf, residualOf}
 use Rattle.accounts.specs.Rows.{sumOf}
 use Rattle.accounts.specs.Account.{publicOf, rowsOfAccount}
 use Rattle.parties.specs.Parties.{shareIn, partSum, Shareable}
@@ -29,13 +27,12 @@ use Rattle.parties.proofs.Everyone.{each-once-unit, part-everyone}
 use Rattle.settlement.specs.Settle.{linesOf}
 use Rattle.balance.specs.Pools.{Pool, recovers, constraintPool, benefiting, contractPool, inPool}
 use Rattle.balance.specs.Balance.{sumZ, accountsOf, poolLines, lineCount, lineSum, balanceIn}
-use Rattle.balance.specs.Shapes.{belongs, plusBy, minusBy, poolBy, creditBy, chargeBy, unitRows, unitCredit, unitCharge, partOf, consumedPart, sentPart, regionSum, contingencyShape, regulationShape, contractShape}
-use Rattle.balance.specs.declared.Balance.{Balance}
+use Rattle.balance.specs.Shapes.{belongs, unitRows, unitCredit, unitCharge, consumedPart, sentPart, regionSum, contingencyShape, regulationShape, contractShape}
 use Rattle.balance.specs.declared.kinds.Kind.{Kind}
 use Rattle.balance.specs.declared.kinds.Kind.the-variants.{Contingency}
 use Rattle.balance.proofs.Kept.{Kept}
 use Rattle.balance.proofs.Shareables.{cost-shareable, credit-shareable, charge-shareable, consumed-shareable, sent-shareable}
-use Rattle.balance.proofs.PoolLines.{ownUnits, constraintShare, regionShare, contingency-lines, regulation-lines, contract-lines}
+use Rattle.balance.proofs.PoolLines.{ownUnits, regionShare, contingency-lines, regulation-lines, contract-lines}
 
 -- ---- sums over a list
 

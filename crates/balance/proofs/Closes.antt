@@ -2,14 +2,14 @@
 -- regulation or FPP pool, or one half more per benefiting region for a contract, in size." Assumes nothing.
 use Prim.Native.Nat.{ℕ, _+_, _*_, _≤_, _<_}
 use mathlib.Core.Path.{_≡_, refl, sym, ap, _∙_}
-use mathlib.Core.Bool.{Bool, true, false, cond, not}
+use mathlib.Core.Bool.{Bool, true, false, cond}
 use mathlib.Core.List.{List, [], _∷_}
 use mathlib.Core.Logic.{_⊎_, inl, inr, ⊎-elim}
 use native.Mathlib.Omega.{arith}
 use native.Mathlib.Nat.{zero-mul}
 use borrow.Author.Tests.{eqb-true, eqb-false}
 use lib.Dec.{eqb, ltb}
-use lib.IntN.{ℤ, pos, natAbs, _+ℤ_}
+use lib.IntN.{pos, natAbs, _+ℤ_}
 use lib.ListN.{length}
 use Rattle.ground.specs.Round.{roundN}
 use Rattle.ground.specs.Sign.{less}
@@ -30,7 +30,6 @@ use Rattle.book.specs.Accepted.{Promise}
 use Rattle.book.proofs.Promise.{accepted}
 use Rattle.amounts.specs.Pools.{poolsOf, residualOf, halvesOf}
 use Rattle.amounts.specs.declared.pools.Pools.{Pools}
-use Rattle.accounts.specs.Rows.{sumOf}
 use Rattle.accounts.specs.Account.{publicOf}
 use Rattle.parties.specs.Within.{Within}
 use Rattle.parties.specs.Parties.{shareIn, partSum, Shareable}

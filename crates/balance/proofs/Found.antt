@@ -1,14 +1,14 @@
 -- A pool that a number finds is one of some constraint's, or some contract's: what holds of all of these holds of it. Assumes nothing.
 use Prim.Native.Nat.{ℕ, zero, suc, _<_}
-use mathlib.Core.Path.{_≡_, refl, sym}
+use mathlib.Core.Path.{_≡_}
 use mathlib.Core.List.{List, [], _∷_, _++_}
 use native.Mathlib.Omega.{arith}
 use native.Mathlib.Nat.{le-refl}
-use Rattle.accounts.specs.Rows.{rowsOf, joined, concatMap}
+use Rattle.accounts.specs.Rows.{joined}
 use Rattle.accounts.specs.Account.{publicOf}
 use Rattle.accounts.proofs.Lists.{joined-rows}
 use Rattle.book.specs.Book.{Book}
-use Rattle.balance.specs.Pools.{Pool, constraintPools, contractPool, poolsIn, Found, past, found, poolAt}
+use Rattle.balance.specs.Pools.{Pool, constraintPools, contractPool, poolsIn, past, found, poolAt}
 
 -- every pool that a number finds in the list has Q
 abbrev pub Each : (Pool → Type 0) → List Pool → Type 0

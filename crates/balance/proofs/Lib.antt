@@ -5,6 +5,7 @@ pub mod Kept
 pub mod PoolLines
 pub mod Balances
 pub mod Accounts
+pub mod Recovered
 pub mod Found
 pub mod Closeness
 pub mod Closes
