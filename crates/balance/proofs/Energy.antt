@@ -1,13 +1,11 @@
 -- The energy of rows, summed by region and then over the regions of a part, is the energy that the part counts, summed over the rows: for all
 -- rows, and for an account's own. Assumes nothing.
-use Prim.Native.Nat.{ℕ, zero, suc, _+_, _^_, _≤_, _<_}
+use Prim.Native.Nat.{ℕ, suc, _^_, _≤_, _<_}
 use mathlib.Core.Path.{_≡_, refl, sym, ap, _∙_}
 use mathlib.Core.Bool.{Bool, true, false, cond, not}
 use native.Mathlib.Omega.{arith}
-use native.Mathlib.Nat.{le-refl}
 use borrow.Author.Tests.{eq-eqb, ne-eqb}
 use lib.Dec.{eqb}
-use lib.ListN.{getD}
 use Rattle.sections.specs.Total.{total, keyed, totalOf}
 use Rattle.sections.specs.Search.{all}
 use Rattle.sections.proofs.Total.{total-zero, total-rest, total-same, total-swap, keyed-hit, keyed-miss}

@@ -1,11 +1,11 @@
 -- An account's own energy by region, and over the regions of a part: what the part counts of the account's rows. Assumes nothing.
-use Prim.Native.Nat.{ℕ, zero, suc, _≤_, _<_, _^_}
-use mathlib.Core.Path.{_≡_, refl, sym, ap, _∙_}
-use mathlib.Core.Bool.{Bool, true, false, cond}
+use Prim.Native.Nat.{ℕ, zero, suc, _<_, _^_}
+use mathlib.Core.Path.{_≡_, refl, _∙_}
+use mathlib.Core.Bool.{cond}
 use native.Mathlib.Omega.{arith}
 use lib.Dec.{eqb}
 use lib.ListN.{getD}
-use Rattle.sections.specs.Total.{total, keyed, totalOf}
+use Rattle.sections.specs.Total.{keyed, totalOf}
 use Rattle.records.specs.declared.rows.Entry.{Entry}
 use Rattle.records.specs.declared.rows.Constraint.{Constraint}
 use Rattle.totals.specs.Sums.{regionOf}
@@ -14,7 +14,7 @@ use Rattle.book.specs.Book.{Book}
 use Rattle.book.specs.Accepted.{Promise}
 use Rattle.amounts.specs.Own.{ownEntry}
 use Rattle.amounts.specs.declared.own.Own.{Own}
-use Rattle.accounts.specs.Rows.{rowsOf, keep, sumOf}
+use Rattle.accounts.specs.Rows.{rowsOf, sumOf}
 use Rattle.accounts.specs.Account.{rowsOfAccount, ownEnergy}
 use Rattle.accounts.proofs.Lists.{total-rows}
 use Rattle.parties.specs.Parties.{byBasis, ownIn}

@@ -1,9 +1,9 @@
 -- An account's lines in each kind of pool: how many they are, and what they credit and charge. Only the record that a pool is of has lines
 -- in it, for ids rise and the lines of constraints and contracts differ in their parts. Assumes nothing.
-use Prim.Native.Nat.{ℕ, _+_, _*_, _^_, _≤_, _<_}
+use Prim.Native.Nat.{ℕ, _+_, _*_, _≤_, _<_}
 use mathlib.Core.Path.{_≡_, refl, sym, ap, ap₂, _∙_}
 use mathlib.Core.Bool.{Bool, true, false, cond, _&&_}
-use mathlib.Core.List.{List, [], _∷_, _++_}
+use mathlib.Core.List.{[], _∷_}
 use native.Mathlib.Omega.{arith}
 use native.Mathlib.Nat.{zero-mul}
 use borrow.Author.Tests.{eqb-true, eq-eqb, ne-eqb}
@@ -27,11 +27,10 @@ use Rattle.amounts.specs.Pools.{poolsOf, residualOf, halvesOf}
 use Rattle.amounts.specs.Shares.{byFactor, byEnergy}
 use Rattle.amounts.specs.declared.pools.Pools.{Pools}
 use Rattle.amounts.specs.declared.pools.Residual.{Residual}
-use Rattle.accounts.specs.Rows.{joined}
 use Rattle.accounts.specs.Account.{publicOf, rowsOfAccount}
 use Rattle.parties.specs.Parties.{shareIn}
 use Rattle.statement.specs.declared.Line.{Line}
-use Rattle.lines.specs.Lines.{contingencyLine, unitLines, restLines, fppLine, usedLine, unusedLine, fppRest, usedRest, unusedRest, aceLine, asoeLine}
+use Rattle.lines.specs.Lines.{contingencyLine, unitLines, restLines}
 use Rattle.settlement.specs.Settle.{regionLines, linesOf}
 use Rattle.settlement.specs.Walks.{ownLines, unitLinesAt, conLines, conLinesAt, contractLinesAt, bookLines}
 use Rattle.settlement.proofs.Link.{lines-link}

@@ -3,11 +3,11 @@ use Prim.Native.Nat.{ℕ, _≤_, _<_}
 use mathlib.Core.Path.{_≡_, refl}
 use mathlib.Core.Bool.{true, cond}
 use native.Mathlib.Omega.{arith}
-use Rattle.sections.specs.Total.{total, totalOf}
+use Rattle.sections.specs.Total.{totalOf}
 use Rattle.sections.proofs.Total.{total-bound}
 use Rattle.records.specs.Rules.{factorOf}
 use Rattle.totals.specs.Sums.{regionOf}
-use Rattle.totals.specs.Divisors.{shareOf, divisorOf}
+use Rattle.totals.specs.Divisors.{shareOf}
 use Rattle.totals.proofs.Turns.{share-small}
 use Rattle.book.specs.Book.{Book}
 use Rattle.book.specs.Accepted.{Promise}
@@ -15,7 +15,7 @@ use Rattle.amounts.specs.Bounds.{SmallResidual, SmallHalves}
 use Rattle.amounts.specs.Pools.{poolsOf, residualOf, halvesOf}
 use Rattle.amounts.specs.declared.pools.Residual.{Residual}
 use Rattle.amounts.proofs.Sizes.{pools-small, residual-small, halves-small}
-use Rattle.parties.specs.Parties.{byBasis, energyIn, Sorted, Shareable}
+use Rattle.parties.specs.Parties.{byBasis, Sorted, Shareable}
 use Rattle.parties.specs.declared.shares.Basis.{Basis}
 use Rattle.parties.specs.declared.shares.Basis.the-variants as basis
 use Rattle.balance.specs.Shapes.{creditBy, chargeBy, partOf, consumedPart, sentPart}

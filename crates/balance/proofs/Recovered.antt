@@ -1,0 +1,29 @@
+-- What the used and the unused pool of a constraint recover makes its cost. 01, The amounts: "unused = cost - used. Mode 2: all unused."
+-- Assumes nothing.
+use Prim.Native.Nat.{_+_}
+use mathlib.Core.Path.{_≡_}
+use mathlib.Core.Bool.{Bool, true, false, cond}
+use native.Mathlib.Omega.{arith}
+use lib.Dec.{eqb}
+use Rattle.ground.proofs.Rounding.{round-share}
+use Rattle.records.specs.Kinds.{modeWith}
+use Rattle.records.specs.Facts.{ConstraintRule}
+use Rattle.records.specs.declared.kinds.Mode.the-variants as mode
+use Rattle.records.specs.declared.rows.Constraint.{Constraint}
+use Rattle.amounts.specs.Pools.{poolsIn}
+use Rattle.balance.specs.Pools.{recovers}
+use Rattle.balance.specs.declared.kinds.Kind.the-variants.{Used, Unused}
+
+pub used-and-unused-make-the-cost : (r : Constraint) → ConstraintRule r → recovers r Used + recovers r Unused ≡ r .cost
+unfolding recovers poolsIn modeWith
+used-and-unused-make-the-cost r h = by (eqb (r .mode) 0) (eqb (r .mode) 1) (eqb (r .mode) 2)
+  where
+    by : (x y z : Bool) → poolsIn (r .cost) (cond x mode.Contingency (cond y (mode.Factored (r .price) (r .rcr) (r .usage)) (cond z mode.Default mode.Unknown))) .used + poolsIn (r .cost) (cond x mode.Contingency (cond y (mode.Factored (r .price) (r .rcr) (r .usage)) (cond z mode.Default mode.Unknown))) .unused ≡ r .cost
+    by true y z = omega arith
+    by false true z = omega (arith, round-share (r .cost) (r .usage) 1000000 (h .terms .usage))
+    by false false true = omega arith
+    by false false false = omega arith
+
+pub default-recovers-the-cost : (r : Constraint) → r .mode ≡ 2 → recovers r Unused ≡ r .cost
+unfolding recovers poolsIn modeWith
+default-recovers-the-cost r e = rw e
