@@ -47,10 +47,14 @@ unfoldable pub answerTo : Book → Found → Balanced
 answerTo B past = balanced.Refused 15 0
 answerTo B (found p) = balanced.Pool (balanceIn B p)
 
+-- the balance of the pool of a number in an accepted book
+unfoldable pub balancesIn : Book → ℕ → Balanced
+balancesIn B number = answerTo B (poolAt (poolsIn (publicOf B)) number)
+
 -- "Numbers 1 to 10 come from every call on a book. A statement then looks for 11, 12, 13, a balance for 15."
 unfoldable pub ifAccepted : Verdict → Balanced → Balanced
 ifAccepted verdict.Accepted x = x
 ifAccepted (verdict.Refused number place) x = balanced.Refused number place
 
 unfoldable pub balanceOf : List ℕ → ℕ → Balanced
-balanceOf b number = ifAccepted (verdict b) (answerTo (bookOf b) (poolAt (poolsIn (publicOf (bookOf b))) number))
+balanceOf b number = ifAccepted (verdict b) (balancesIn (bookOf b) number)

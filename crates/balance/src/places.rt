@@ -20,11 +20,7 @@ pub enum Place {
 fn pools_in(r: Constraint) -> u64
     ensures { λ x. ⌜ x ≡ length (constraintPools r) ⌝ }
 {
-    if r.mode == 1 {
-        3
-    } else {
-        1
-    }
+    if r.mode == 1 { 3 } else { 1 }
 }
 
 // Which of a constraint's pools stands at a place among them.

@@ -10,10 +10,10 @@ ghost use Rattle.book.specs.Accepted.{Promise};
 ghost use Rattle.parties.specs.Parties.{partSum, Shareable};
 ghost use Rattle.balance.specs.Shapes.{constraintBasis, regionSum, contingencyShape, regulationShape, contractShape};
 ghost use Rattle.balance.specs.Rests.{OfConstraint, OfContract, PartIs, Counted, PaidIs};
+use crate::Balance;
 use crate::kinds;
 use crate::kinds::Kind;
 use crate::units;
-use crate::Balance;
 use amounts::pools;
 use amounts::shares;
 use book::header::Header;
@@ -107,13 +107,7 @@ pub(crate) fn contingency(book: &[u8], h: Header, r: Constraint, count: usize) -
 }
 
 // A regulation pool: a line of each unit row, by its factor, and a residual line of each account.
-pub(crate) fn regulation(
-    book: &[u8],
-    h: Header,
-    r: Constraint,
-    kind: Kind,
-    count: usize,
-) -> Balance
+pub(crate) fn regulation(book: &[u8], h: Header, r: Constraint, kind: Kind, count: usize) -> Balance
     requires { ⌜ Laid (now book) h ⌝ }
     requires { ⌜ Promise (bookIn (now book) h) ⌝ }
     requires { ⌜ OfConstraint (bookIn (now book) h) r ⌝ }
