@@ -28,6 +28,22 @@ const RECORD: usize = 24;
 
 const MOST_LINES: usize = 2_152;
 
+/// The most that a line's amount may be, either way.
+const LIMIT: i64 = 50_000_000_000;
+
+/// Amounts at and past the edges of what some part allows.
+const AMOUNTS: [i64; 9] = [
+    i64::MIN,
+    -LIMIT - 1,
+    -LIMIT,
+    -1,
+    0,
+    1,
+    LIMIT,
+    LIMIT + 1,
+    i64::MAX,
+];
+
 /// The calls, and every answer that each of them has.
 const CALLS: [(&str, &[usize]); 3] = [
     ("header", &[0, 14]),
@@ -188,6 +204,7 @@ impl Run {
         reference
     }
 
+    /// How a message about a difference begins.
     fn place(&self) -> String {
         let Run {
             seed,
@@ -208,31 +225,24 @@ impl Run {
         [0, lines.saturating_sub(1), lines, u64::MAX, drawn]
     }
 
-    /// Just enough room, one byte less, one more, and any.
+    /// Just enough room, one byte less, some more, and any that is no more.
     fn rooms(&mut self, length: usize) -> [usize; 4] {
         let longer = *self.random.pick(&[1, 24, 100]);
         let drawn = self.random.below(length + 1);
         [length, length.saturating_sub(1), length + longer, drawn]
     }
 
-    /// Has the library write an account's statement, and compares it with the
-    /// reference's: the same header and the same lines are read back in order.
+    /// What the library writes for an account is a statement, and the header and the
+    /// lines read from it are those that the reference settles, in the same order.
     fn compare_written(&mut self, book: &Book, account: u32) {
-        let statement = written(book, account);
         let settled = reference::settle(&book.encode(), account).expect("it is settled");
+        let statement = written(book, account);
         self.compare_accepted(&statement);
         assert_eq!(fervolatro::header(&statement), Ok(settled.header.heading()));
         for (index, line) in (0..).zip(&settled.lines) {
             let read = self.compare_line(&statement, index);
-            assert_eq!(
-                read,
-                Ok(line.entry()),
-                "line {index}, {}",
-                shown(&statement)
-            );
+            assert_eq!(read, Ok(line.entry()), "line {index}");
         }
-        let past_end = fervolatro::line(&statement, settled.lines.len() as u64);
-        assert_eq!(past_end.map_err(|refusal| refusal.number), Err(15));
     }
 
     /// An accepted book in which accounts have several rows, and an account of it.
@@ -299,11 +309,13 @@ fn line_at(index: usize) -> usize {
     RECORD + index * RECORD
 }
 
-/// The statement that the library writes.
+/// The statement that the library writes, in a buffer of just its length.
 fn written(book: &Book, account: u32) -> Vec<u8> {
-    let mut buffer = vec![0; line_at(MOST_LINES)];
-    let length = fervolatro::statement(&book.encode(), account, &mut buffer);
-    buffer.truncate(length.expect("it is written"));
+    let book = book.encode();
+    let settled = reference::settle(&book, account).expect("it is settled");
+    let mut buffer = vec![0; line_at(settled.lines.len())];
+    let length = fervolatro::statement(&book, account, &mut buffer);
+    assert_eq!(length, Ok(buffer.len()));
     buffer
 }
 
@@ -380,36 +392,19 @@ fn line_edges(run: &mut Run) {
 /// Every part, and numbers that are none, with masks, units and amounts at and
 /// past the edges of what it allows.
 fn parts(run: &mut Run) {
-    const UNITS: [u32; 4] = [0, 1, 1 << 31, u32::MAX];
-    const LIMIT: i64 = 50_000_000_000;
-    const AMOUNTS: [i64; 9] = [
-        0,
-        1,
-        -1,
-        LIMIT,
-        -LIMIT,
-        LIMIT + 1,
-        -LIMIT - 1,
-        i64::MIN,
-        i64::MAX,
-    ];
     let masks: Vec<u8> = (0..=33).chain([48, 64, 128, 255]).collect();
     for part in (0..=11).chain([255]) {
         for &regions in &masks {
-            for unit in UNITS {
+            for unit in [0, 1, 1 << 31, u32::MAX] {
                 for amount in AMOUNTS {
-                    let id = run.random.edged(1, i64::from(u32::MAX)) as u32;
-                    compare_among_others(
-                        run,
-                        Line {
-                            id,
-                            part,
-                            regions,
-                            unit,
-                            amount,
-                            ..Line::default()
-                        },
-                    );
+                    let line = Line {
+                        part,
+                        regions,
+                        unit,
+                        amount,
+                        ..any_line(&mut run.random)
+                    };
+                    compare_among_others(run, line);
                 }
             }
         }
