@@ -164,6 +164,31 @@ fn no_lines() {
     assert_eq!(rewritten(&bytes, 24), (Ok(24), bytes));
 }
 
+/// A line byte by byte, its fields at the ends of their ranges: 50,000,000,000 is
+/// 0x0b_a43b_7400, and its negative 0xffff_fff4_5bc4_8c00.
+#[test]
+fn a_line_at_its_ends() {
+    let mut bytes = empty_statement().encode();
+    bytes[14] = 1;
+    bytes.extend(
+        [
+            [0xff, 0xff, 0xff, 0xff, 5, 31, 0, 0], // id 4,294,967,295, part 5, all regions
+            [0xff, 0xff, 0xff, 0xff, 0, 0, 0, 0],  // unit 4,294,967,295
+            [0x00, 0x8c, 0xc4, 0x5b, 0xf4, 0xff, 0xff, 0xff],
+        ]
+        .concat(),
+    );
+    let entry = Entry {
+        id: 4_294_967_295,
+        part: 5,
+        regions: 31,
+        unit: 4_294_967_295,
+        amount: -50_000_000_000,
+    };
+    assert_eq!(line(&bytes, 0), Ok(entry));
+    assert_eq!(rewritten(&bytes, 48), (Ok(48), bytes));
+}
+
 // What is a statement, rule by rule.
 
 /// All three calls have to see a statement in the bytes, or none.
@@ -186,6 +211,8 @@ type Case<Changed> = (bool, &'static str, fn(&mut Changed));
 
 const HEADERS: &[Case<Header>] = &[
     (false, "the mark of a book", |of| of.mark = *b"RCB"),
+    (false, "a wrong first letter", |of| of.mark = *b"BCS"),
+    (false, "a wrong second letter", |of| of.mark = *b"RBS"),
     (false, "a reserved byte", |of| of.reserved = 1),
     (false, "version 0", |of| of.version = 0),
     (false, "version 2", |of| of.version = 2),
@@ -326,6 +353,7 @@ const ORDERS: &[Case<Vec<Line>>] = &[
     (true, "lines turned round", |lines| lines.reverse()),
     (true, "two lines exchanged", |lines| lines.swap(0, 11)),
     (true, "a line repeated", |lines| lines.push(lines[0])),
+    (true, "a falling id", |lines| lines[11].id = 499),
     (true, "one line alone", |lines| lines.truncate(1)),
     (true, "2,152 lines", |lines| lines.resize(2_152, lines[0])),
     (false, "2,153 lines", |lines| lines.resize(2_153, lines[0])),
