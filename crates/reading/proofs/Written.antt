@@ -5,7 +5,7 @@ use mathlib.Core.Path.{_≡_, refl, sym, ap, _∙_}
 use mathlib.Core.List.{List, [], _∷_, _++_, append-assoc}
 use mathlib.Core.Bool.{true}
 use native.Mathlib.Omega.{arith}
-use native.Mathlib.Nat.{add-zero, le-refl, le-of-suc-le-suc, not-suc-le-zero}
+use native.Mathlib.Nat.{add-zero, le-refl}
 use borrow.Author.Tests.{le-leb, leb-true, eq-eqb}
 use lib.Dec.{eqb, leb}
 use lib.IntN.{pos, natAbs}
@@ -14,8 +14,10 @@ use lib.Seq.{split-at, take-suc, take-length, length-take-le}
 use mir.Syntax.{w64}
 use mir.Val.{SFits}
 use Rattle.ground.specs.Bytes.{byteAt, u16At, u32At, i64At, part}
+use Rattle.ground.specs.Each.{Each}
 use Rattle.ground.specs.Every.{Every}
 use Rattle.ground.specs.Le.{le16, le32, le64, int64}
+use Rattle.ground.proofs.Each.{each-at}
 use Rattle.ground.proofs.Every.{every, all}
 use Rattle.ground.proofs.Part.{part-between, part-byte, part-u16, part-u32, part-i64}
 use Rattle.ground.proofs.Back.{u16-stands, u32-stands, i64-stands}
@@ -26,8 +28,8 @@ use Rattle.statement.specs.Statement.{rcs, headingBytes, lineBytes, linesBytes,
 use Rattle.statement.specs.declared.Heading.{Heading}
 use Rattle.statement.specs.declared.Line.{Line}
 use Rattle.statement.proofs.Lines.{heading-length, line-length, lines-length, lines-append, statement-length}
-use Rattle.reading.specs.Reading.{headingAt, headingOk, marked, markTests, lineFrom, lineAt, linesIn, spareClear, regionsOk, unitOk, amountOk, lineOk, lineHolds, headed, isStatement}
-use Rattle.reading.specs.Writable.{WritableHeading, WritableLine, WritableLines}
+use Rattle.reading.specs.Reading.{headingAt, headingOk, marked, lineFrom, lineAt, linesIn, regionsOk, unitOk, amountOk, lineOk, lineHolds, headed, isStatement}
+use Rattle.reading.specs.Writable.{WritableHeading, WritableLine}
 use Rattle.reading.proofs.Read.{heading-is, line-is}
 
 -- ---- what is in range fits
@@ -94,12 +96,6 @@ module _ (y : Line) where
 none : Line
 none = record { id = 0; part = 0; regions = 0; unit = 0; amount = pos 0 }
 
-each-writable : (ls : List Line) → WritableLines ls → (i : ℕ) → i < length ls → WritableLine (getD ls i none)
-unfolding WritableLines
-each-writable [] w i l = absurd (not-suc-le-zero l)
-each-writable (y ∷ ls) w zero l = w .0
-each-writable (y ∷ ls) w (suc i) l = each-writable ls (w .1) i (le-of-suc-le-suc l)
-
 module _ (h : Heading) (ls : List Line) where
   -- ---- the header
 
@@ -140,7 +136,7 @@ module _ (h : Heading) (ls : List Line) where
       let long : length (headingBytes h ++ before) ≡ lineFrom i = rw (length-append, heading-length h, lines-length (take i ls), length-take-le i ls (omega arith)) (omega arith) in
       ap (λ (s : List ℕ). part s (lineFrom i) 24) whole ∙ part-between (headingBytes h ++ before) (lineBytes y) after (lineFrom i) 24 long (line-length y)
 
-  module _ (w : WritableLines ls) (i : ℕ) (l : i < length ls) where
+  module _ (w : Each WritableLine ls) (i : ℕ) (l : i < length ls) where
     -- reading gives line i back
     line-back : lineAt (statementBytes h ls) i ≡ getD ls i none
     line-back =
@@ -148,7 +144,7 @@ module _ (h : Heading) (ls : List Line) where
         let y = getD ls i none in
         let k = lineFrom i in
         let e = line-there i l in
-        let v = each-writable ls w i l in
+        let v = each-at WritableLine ls w none i l in
         let id : u32At s k ≡ y .id = rw add-zero at (sym (part-u32 s k 24 0 (omega arith)) ∙ ap (λ (t : List ℕ). u32At t 0) e ∙ own-id y (v .id)) in
         sym (line-is s i y
         (sym id)
@@ -167,22 +163,22 @@ module _ (h : Heading) (ls : List Line) where
         let a : u16At s (k + 6) ≡ 0 = sym (part-u16 s k 24 6 (omega arith)) ∙ ap (λ (t : List ℕ). u16At t 6) e ∙ own-spare16 y in
         let b : u32At s (k + 12) ≡ 0 = sym (part-u32 s k 24 12 (omega arith)) ∙ ap (λ (t : List ℕ). u32At t 12) e ∙ own-spare32 y in
         all (eqb (u16At s (k + 6)) 0 ∷ eqb (u32At s (k + 12)) 0 ∷ lineOk (lineAt s i) ∷ [])
-        (eq-eqb (u16At s (k + 6)) 0 a, (eq-eqb (u32At s (k + 12)) 0 b, (ap lineOk line-back ∙ each-writable ls w i l .ok, tt)))
+        (eq-eqb (u16At s (k + 6)) 0 a, (eq-eqb (u32At s (k + 12)) 0 b, (ap lineOk line-back ∙ each-at WritableLine ls w none i l .ok, tt)))
 
   -- the first n lines
-  lines-taken : WritableLines ls → (n : ℕ) → n ≤ length ls → linesIn (statementBytes h ls) n ≡ take n ls
+  lines-taken : Each WritableLine ls → (n : ℕ) → n ≤ length ls → linesIn (statementBytes h ls) n ≡ take n ls
   unfolding linesIn
   lines-taken w zero l = refl
   lines-taken w (suc n) l = rw (lines-taken w n (omega arith), line-back w n l, take-suc ls n none l)
 
   -- reading gives all of them back, in order
-  pub lines-back : WritableLines ls → linesIn (statementBytes h ls) (length ls) ≡ ls
+  pub lines-back : Each WritableLine ls → linesIn (statementBytes h ls) (length ls) ≡ ls
   lines-back w = lines-taken w (length ls) (le-refl (length ls)) ∙ take-length ls
 
   -- ---- the whole
 
   -- what is written is accepted
-  pub written-accepted : WritableHeading h (length ls) → WritableLines ls → isStatement (statementBytes h ls) ≡ true
+  pub written-accepted : WritableHeading h (length ls) → Each WritableLine ls → isStatement (statementBytes h ls) ≡ true
   unfolding isStatement headed
   written-accepted w v =
       let s = statementBytes h ls in

@@ -2,7 +2,6 @@
 use Prim.Native.Nat.{ℕ, _<_, _^_}
 use mathlib.Core.Path.{_≡_}
 use mathlib.Core.Bool.{true}
-use mathlib.Core.List.{List, [], _∷_}
 use Rattle.statement.specs.declared.Heading.{Heading}
 use Rattle.statement.specs.declared.Line.{Line}
 use Rattle.reading.specs.Reading.{headingOk, lineOk}
@@ -18,8 +17,3 @@ pub record WritableLine (l : Line) : Type 0 where
   pub ok : lineOk l ≡ true
   pub id : l .id < 2 ^ 32
   pub unit : l .unit < 2 ^ 32
-
--- each of the lines
-unfoldable pub WritableLines : List Line → Type 0
-WritableLines [] = Unit
-WritableLines (l ∷ ls) = WritableLine l × WritableLines ls
