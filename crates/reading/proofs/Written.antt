@@ -143,16 +143,16 @@ module _ (h : Heading) (ls : List Line) where
         let s = statementBytes h ls in
         let y = getD ls i none in
         let k = lineFrom i in
-        let e = line-there i l in
+        let e = sym (line-there i l) in
         let v = each-at WritableLine ls w none i l in
-        let id : u32At s k ≡ y .id = rw add-zero at (sym (part-u32 s k 24 0 (omega arith)) ∙ ap (λ (t : List ℕ). u32At t 0) e ∙ own-id y (v .id)) in
         sym (line-is s i y
-        (sym id)
-        (sym (sym (part-byte s k 24 4 (omega arith)) ∙ ap (λ (t : List ℕ). byteAt t 4) e ∙ own-part y))
-        (sym (sym (part-byte s k 24 5 (omega arith)) ∙ ap (λ (t : List ℕ). byteAt t 5) e ∙ own-regions y))
-        (sym (sym (part-u32 s k 24 8 (omega arith)) ∙ ap (λ (t : List ℕ). u32At t 8) e ∙ own-unit y (v .unit)))
-        (sym (sym (part-i64 s k 24 16 (omega arith)) ∙ ap (λ (t : List ℕ). i64At t 16) e ∙ own-amount y (amount-fits y (v .ok)))))
+        (rw add-zero at (sym (own-id y (v .id)) ∙ ap (λ (t : List ℕ). u32At t 0) e ∙ part-u32 s k 24 0 (omega arith)))
+        (sym (own-part y) ∙ ap (λ (t : List ℕ). byteAt t 4) e ∙ part-byte s k 24 4 (omega arith))
+        (sym (own-regions y) ∙ ap (λ (t : List ℕ). byteAt t 5) e ∙ part-byte s k 24 5 (omega arith))
+        (sym (own-unit y (v .unit)) ∙ ap (λ (t : List ℕ). u32At t 8) e ∙ part-u32 s k 24 8 (omega arith))
+        (sym (own-amount y (amount-fits y (v .ok))) ∙ ap (λ (t : List ℕ). i64At t 16) e ∙ part-i64 s k 24 16 (omega arith)))
 
+    -- and it holds
     line-holds : lineHolds (statementBytes h ls) i ≡ true
     unfolding lineHolds
     line-holds =

@@ -32,10 +32,10 @@ module _ (o : Outcome) (xs : List ℕ) (given : o ≡ gives xs) (l : List ℕ) w
       let f = le-leb (length xs) (length l) h in
       record { answer = rw (given, f) (ap Length q); left = rw (given, f) e }
 
--- where a length is answered, the definition gives just the bytes that stand at the front
 not-refused : (n number place : ℕ) → Length n ≡ Refused number place → ⊥
 not-refused n number place e = let z : _≡_ {A = ℕ} 0 1 = cc in omega arith
 
+-- where a length is answered, the definition gives just the bytes that stand at the front
 pub lent-front : (o : Outcome) (l : List ℕ) (n : ℕ) (b : List ℕ) → Lent o l (Length n) b → o ≡ gives (part b 0 n)
 unfolding answerFor leftIn
 lent-front (refuses number place) l n b h = absurd (not-refused n number place (h .answer))

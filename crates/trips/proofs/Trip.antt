@@ -13,7 +13,7 @@ use Rattle.calendar.specs.Calendar.{isPeriod}
 use Rattle.book.specs.Book.{Book, bookOf}
 use Rattle.book.specs.Accepted.{Promise}
 use Rattle.book.proofs.Promise.{accepted}
-use Rattle.accounts.specs.Account.{publicOf, rowsOfAccount}
+use Rattle.accounts.specs.Account.{Public, Rows, publicOf, rowsOfAccount}
 use Rattle.statement.specs.Statement.{statementBytes}
 use Rattle.statement.specs.Lent.{gives, Lent}
 use Rattle.statement.specs.declared.Heading.{Heading}
@@ -39,6 +39,18 @@ heading-written B p account n low small few =
       count = refl;
     }
 
+-- a header and lines that are in range are read back
+read-back : (public : Public) (rows : Rows) (account : ℕ) → WritableHeading (headingOf account public (length (linesOf public rows))) (length (linesOf public rows)) → Each WritableLine (linesOf public rows) → ReadBack public rows account (statementBytes (headingOf account public (length (linesOf public rows))) (linesOf public rows))
+read-back public rows account w v =
+    let ls = linesOf public rows in
+    let h = headingOf account public (length ls) in
+    let head : headingAt (statementBytes h ls) ≡ h = heading-back h ls w in
+    record {
+      accepted = written-accepted h ls w v;
+      heading = head;
+      lines = ap (λ (x : Heading). linesIn (statementBytes h ls) (x .lines)) head ∙ lines-back h ls v;
+    }
+
 pub written-and-read : (b : List ℕ) (account : ℕ) (xs : List ℕ) → AreBytes b → account < 2 ^ 32 → outcome b account ≡ gives xs → ReadBack (publicOf (bookOf b)) (rowsOfAccount (bookOf b) account) account xs
 unfolding statementOf
 written-and-read b account xs bytes small e =
@@ -47,17 +59,11 @@ written-and-read b account xs bytes small e =
     let p = accepted b (s .book) .promise in
     let o = owned B p account (s .known) in
     let ls = linesOf (publicOf B) (rowsOfAccount B account) in
-    let h = headingOf account (publicOf B) (length ls) in
     let few : length ls ≤ 2152 = rw (o .lines) (o .few) in
-    let w : WritableHeading h (length ls) = heading-written B p account (length ls) (account-low B p account (s .known)) small few in
-    let v : Each WritableLine ls = due-written ls (rw (o .lines) (book-due B p (narrow b bytes) account _)) (s .under) in
-    let head : headingAt (statementBytes h ls) ≡ h = heading-back h ls w in
     rw (s .bytes)
-    (record {
-      accepted = written-accepted h ls w v;
-      heading = head;
-      lines = ap (λ (x : Heading). linesIn (statementBytes h ls) (x .lines)) head ∙ lines-back h ls v;
-    })
+    (read-back (publicOf B) (rowsOfAccount B account) account
+    (heading-written B p account (length ls) (account-low B p account (s .known)) small few)
+    (due-written ls (rw (o .lines) (book-due B p (narrow b bytes) account _)) (s .under)))
 
 -- the same of a call's answer and of what it leaves in a lent buffer l: where it answers a length, that many bytes at the front are the
 -- statement that is read back
