@@ -1,8 +1,8 @@
 /*
- * Fervolatro: the checks of a book of one five-minute trading interval, and
- * the statement of one account.
+ * Fervolatro: the checks of a book of one five-minute trading interval, the
+ * statement of one account, and statements read back.
  *
- * A call reads the book it is lent and writes at most the buffer it is lent:
+ * A call reads the bytes it is lent and writes at most the buffer it is lent:
  * it keeps nothing from one call to the next, and needs no preparation and no
  * tidying up.
  */
@@ -59,12 +59,12 @@ typedef struct {
 fervolatro_verdict fervolatro_check(const uint8_t *book, size_t book_len);
 
 /*
- * The answer of a statement.
+ * The answer of a call that writes a statement.
  *
  * refusal  0 if the statement was written, else the number of the refusal,
- *          1 to 13.
+ *          1 to 14.
  * place    where in the book the fault lies, in bytes from its start; 0 if
- *          the statement was written, and for refusals 11 to 13.
+ *          the statement was written, and for refusals 11 to 14.
  * length   how many bytes were written; 0 if the call is refused.
  */
 typedef struct {
@@ -103,6 +103,125 @@ typedef struct {
 fervolatro_written fervolatro_statement(const uint8_t *book, size_t book_len,
                                         uint32_t account, uint8_t *buffer,
                                         size_t buffer_len);
+
+/*
+ * The answer of fervolatro_header.
+ *
+ * refusal   0 if the bytes are a statement, else 14; then every field below
+ *           is 0.
+ * place     0.
+ * account   whose statement it is.
+ * date      as YYYYMMDD.
+ * interval  of the day, 1 to 288.
+ * run       1 to 99.
+ * lines     how many lines the statement has, 0 to 2,152.
+ */
+typedef struct {
+    uint64_t refusal;
+    uint64_t place;
+    uint64_t account;
+    uint64_t date;
+    uint64_t interval;
+    uint64_t run;
+    uint64_t lines;
+} fervolatro_heading;
+
+/*
+ * Reads the header of a statement: any bytes of any length get exactly one
+ * answer.
+ *
+ *   No  Given exactly when                              Place
+ *    0  the bytes are a statement                       0
+ *   14  they are not                                    0
+ *
+ * Bytes are a statement where
+ *
+ *   - mark and version are right and every reserved byte is 0;
+ *   - interval, date and run are in their ranges, the account is from 1, and
+ *     there are 0 to 2,152 lines;
+ *   - the length is 24 + 24 x lines;
+ *   - each line has an id from 1, a part of 1 to 10, regions of 1 to 31, one
+ *     bit of them in parts 9 and 10, a unit that is non-zero exactly in parts
+ *     3 to 5, and an amount within 50,000,000,000 ten-thousandths of a dollar
+ *     either way that is not positive outside parts 3 and 6.
+ *
+ * The order of the lines is not judged.
+ *
+ * statement      the first of statement_len readable bytes. NULL is not
+ *                allowed, even where statement_len is 0: pass any valid
+ *                pointer then.
+ * statement_len  how many bytes are lent.
+ */
+fervolatro_heading fervolatro_header(const uint8_t *statement,
+                                     size_t statement_len);
+
+/*
+ * The answer of fervolatro_line.
+ *
+ * refusal  0 if the line is there, else 14 or 15; then every field below is 0.
+ * place    0.
+ * id       of the constraint, or in parts 9 and 10 of the contract.
+ * part     1 to 10, what the line is for.
+ * regions  one bit each, bit 0 for NSW1.
+ * unit     the unit's id in parts 3 to 5, else 0.
+ * amount   in ten-thousandths of a dollar; what the account must pay is
+ *          negative.
+ */
+typedef struct {
+    uint64_t refusal;
+    uint64_t place;
+    uint64_t id;
+    uint64_t part;
+    uint64_t regions;
+    uint64_t unit;
+    int64_t amount;
+} fervolatro_entry;
+
+/*
+ * Reads one line of a statement.
+ *
+ *   No  Given exactly when                              Place
+ *    0  none of the rows below applies                  0
+ *   14  the bytes are not a statement, as               0
+ *       fervolatro_header has it
+ *   15  index is not below the number of lines          0
+ *
+ * The lowest number that applies is given.
+ *
+ * statement      the first of statement_len readable bytes. NULL is not
+ *                allowed, as above.
+ * statement_len  how many bytes are lent.
+ * index          the number of the line, from 0.
+ */
+fervolatro_entry fervolatro_line(const uint8_t *statement,
+                                 size_t statement_len, uint64_t index);
+
+/*
+ * Writes a statement that was read again: its header, and its lines in their
+ * order.
+ *
+ *   No  Given exactly when                              Place
+ *    0  none of the rows below applies                  0
+ *   14  the bytes are not a statement, as               0
+ *       fervolatro_header has it
+ *   13  buffer_len below the statement's length         0
+ *
+ * 14 is looked for first.
+ *
+ * Where the answer is 0, the first length bytes of the buffer are the
+ * statement and every later byte is what it was. A refusal leaves every byte
+ * of the buffer what it was.
+ *
+ * statement      the first of statement_len readable bytes. NULL is not
+ *                allowed, as above.
+ * statement_len  how many bytes are lent to be read.
+ * buffer         the first of buffer_len bytes to write to, none of them in
+ *                the statement. NULL is not allowed, as above.
+ * buffer_len     how many bytes are lent to be written.
+ */
+fervolatro_written fervolatro_rewrite(const uint8_t *statement,
+                                      size_t statement_len, uint8_t *buffer,
+                                      size_t buffer_len);
 
 #ifdef __cplusplus
 }

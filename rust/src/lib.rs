@@ -1,10 +1,11 @@
 //! Safe calls into the proved Fervolatro library, and what it is tested with.
 //!
-//! [`check`] and [`statement()`] are the library's own answers. [`mod@reference`] is
-//! a second, independent statement of the same rules, written from the scope
-//! document (01) alone; [`book`] and [`mod@statement`] have the records and their
-//! bytes, [`testing`] what the tests build books with. `cargo test` compares the
-//! two on some hundred thousand books and statements.
+//! [`check`], [`statement()`], [`header`], [`line()`] and [`rewrite`] are the
+//! library's own answers. [`mod@reference`] is a second, independent statement of
+//! the same rules, written from the scope document (01) alone; [`book`] and
+//! [`mod@statement`] have the records and their bytes, [`testing`] what the tests
+//! build books and statements with. `cargo test` compares the two on some hundred
+//! thousand of each.
 
 use std::error::Error;
 use std::fmt;
@@ -16,11 +17,12 @@ pub mod reference;
 pub mod statement;
 pub mod testing;
 
-/// Why a call on a book is refused.
+/// Why a call is refused.
 #[derive(Clone, Copy, Debug, PartialEq, Eq)]
 pub struct Refusal {
     /// The number of the refusal as in the scope document's table: 1 to 10 from
-    /// every call, 11 to 13 from a statement.
+    /// every call on a book, 11 to 13 from writing its statement; 13 to 15 from a
+    /// call on a statement.
     pub number: u8,
     /// The offset of the record at fault, or 0 where the number has no record.
     pub place: usize,
@@ -33,6 +35,32 @@ impl fmt::Display for Refusal {
 }
 
 impl Error for Refusal {}
+
+/// What the header of a statement says.
+#[derive(Clone, Copy, Debug, Default, PartialEq, Eq)]
+pub struct Heading {
+    pub account: u32,
+    /// As YYYYMMDD.
+    pub date: u32,
+    pub interval: u16,
+    pub run: u16,
+    /// How many lines the statement has.
+    pub lines: u16,
+}
+
+/// What one line of a statement says.
+#[derive(Clone, Copy, Debug, Default, PartialEq, Eq)]
+pub struct Entry {
+    /// Of the constraint, or in parts 9 and 10 of the contract.
+    pub id: u32,
+    pub part: u8,
+    /// One bit each, bit 0 for NSW1.
+    pub regions: u8,
+    /// 0 where the line is not a unit's.
+    pub unit: u32,
+    /// In ten-thousandths of a dollar; what the account must pay is negative.
+    pub amount: i64,
+}
 
 /// Checks a book: any bytes are either accepted or refused for one reason, the
 /// lowest number that applies, at the lowest offset where it does.
@@ -56,6 +84,54 @@ pub fn check(book: &[u8]) -> Result<(), Refusal> {
 /// ```
 pub fn statement(book: &[u8], account: u32, buffer: &mut [u8]) -> Result<usize, Refusal> {
     let written = library::statement(book, account, buffer);
+    written.into_result(buffer.len())
+}
+
+/// Reads the header of a statement: any bytes are either a statement or refused
+/// with 14.
+///
+/// ```
+/// use fervolatro::testing::worked::worked_statement;
+///
+/// let heading = fervolatro::header(&worked_statement().encode()).unwrap();
+/// assert_eq!((heading.account, heading.lines), (7, 12));
+/// let refusal = fervolatro::header(b"RCS").unwrap_err();
+/// assert_eq!(refusal.to_string(), "refused 14 at 0");
+/// ```
+pub fn header(statement: &[u8]) -> Result<Heading, Refusal> {
+    library::header(statement).into_result()
+}
+
+/// Reads one line of a statement, numbered from 0. 14 is looked for first, then 15.
+///
+/// ```
+/// use fervolatro::testing::worked::worked_statement;
+///
+/// let statement = worked_statement().encode();
+/// let entry = fervolatro::line(&statement, 0).unwrap();
+/// assert_eq!((entry.unit, entry.amount), (1, 591_300));
+/// let refusal = fervolatro::line(&statement, 12).unwrap_err();
+/// assert_eq!(refusal.to_string(), "refused 15 at 0");
+/// ```
+pub fn line(statement: &[u8], index: u64) -> Result<Entry, Refusal> {
+    library::line(statement, index).into_result()
+}
+
+/// Writes a statement again at the front of the buffer, header and lines in their
+/// order, and gives its length; later bytes stay. A refusal leaves every byte of
+/// the buffer. 14 is looked for first, then 13.
+///
+/// ```
+/// use fervolatro::testing::worked::worked_statement;
+///
+/// let statement = worked_statement().encode();
+/// let mut buffer = [7; 320];
+/// assert_eq!(fervolatro::rewrite(&statement, &mut buffer), Ok(312));
+/// assert_eq!(buffer[..312], statement);
+/// assert_eq!(buffer[312..], [7; 8]);
+/// ```
+pub fn rewrite(statement: &[u8], buffer: &mut [u8]) -> Result<usize, Refusal> {
+    let written = library::rewrite(statement, buffer);
     written.into_result(buffer.len())
 }
 
@@ -87,10 +163,57 @@ impl library::Written {
     }
 }
 
+impl library::Heading {
+    /// The answer as a result. A header has place 0, a refusal no header.
+    fn into_result(self) -> Result<Heading, Refusal> {
+        let heading = Heading {
+            account: field(self.account),
+            date: field(self.date),
+            interval: field(self.interval),
+            run: field(self.run),
+            lines: field(self.lines),
+        };
+        read(self.refusal, self.place, heading)
+    }
+}
+
+impl library::Entry {
+    /// The answer as a result. A line has place 0, a refusal no line.
+    fn into_result(self) -> Result<Entry, Refusal> {
+        let entry = Entry {
+            id: field(self.id),
+            part: field(self.part),
+            regions: field(self.regions),
+            unit: field(self.unit),
+            amount: self.amount,
+        };
+        read(self.refusal, self.place, entry)
+    }
+}
+
+/// What was read, or the refusal, which leaves every field of it 0.
+fn read<R>(number: u64, place: u64, fields: R) -> Result<R, Refusal>
+where
+    R: Default + PartialEq + fmt::Debug,
+{
+    if number == 0 {
+        assert_eq!(place, 0, "what is read has no place");
+        return Ok(fields);
+    }
+    assert_eq!(fields, R::default(), "a refusal reads nothing");
+    Err(refusal(number, place))
+}
+
+/// A field of a statement, which fits the bytes it has there.
+fn field<N: TryFrom<u64>>(number: u64) -> N {
+    let fitting = N::try_from(number).ok();
+    fitting.unwrap_or_else(|| panic!("{number} is wider than its field"))
+}
+
 /// A refusal as the library numbers it: the number fits its byte.
 fn refusal(number: u64, place: u64) -> Refusal {
     Refusal {
-        number: u8::try_from(number).expect("refusals are numbered 1 to 13"),
+        number: u8::try_from(number).expect("refusals are numbered 1 to 15"),
         place: usize::try_from(place).expect("a place lies within the book"),
     }
 }

@@ -19,9 +19,33 @@ pub(crate) struct Written {
     pub(crate) length: u64,
 }
 
+/// `fervolatro_heading` of `include/fervolatro.h`.
+#[repr(C)]
+pub(crate) struct Heading {
+    pub(crate) refusal: u64,
+    pub(crate) place: u64,
+    pub(crate) account: u64,
+    pub(crate) date: u64,
+    pub(crate) interval: u64,
+    pub(crate) run: u64,
+    pub(crate) lines: u64,
+}
+
+/// `fervolatro_entry` of `include/fervolatro.h`.
+#[repr(C)]
+pub(crate) struct Entry {
+    pub(crate) refusal: u64,
+    pub(crate) place: u64,
+    pub(crate) id: u64,
+    pub(crate) part: u64,
+    pub(crate) regions: u64,
+    pub(crate) unit: u64,
+    pub(crate) amount: i64,
+}
+
 #[cfg(target_arch = "x86_64")]
 mod linked {
-    use super::{Verdict, Written};
+    use super::{Entry, Heading, Verdict, Written};
 
     extern "C" {
         fn fervolatro_check(book: *const u8, book_len: usize) -> Verdict;
@@ -30,6 +54,17 @@ mod linked {
             book: *const u8,
             book_len: usize,
             account: u32,
+            buffer: *mut u8,
+            buffer_len: usize,
+        ) -> Written;
+
+        fn fervolatro_header(statement: *const u8, statement_len: usize) -> Heading;
+
+        fn fervolatro_line(statement: *const u8, statement_len: usize, index: u64) -> Entry;
+
+        fn fervolatro_rewrite(
+            statement: *const u8,
+            statement_len: usize,
             buffer: *mut u8,
             buffer_len: usize,
         ) -> Written;
@@ -54,11 +89,33 @@ mod linked {
             )
         }
     }
+
+    pub(crate) fn header(statement: &[u8]) -> Heading {
+        // SAFETY: as for a check.
+        unsafe { fervolatro_header(statement.as_ptr(), statement.len()) }
+    }
+
+    pub(crate) fn line(statement: &[u8], index: u64) -> Entry {
+        // SAFETY: as for a check.
+        unsafe { fervolatro_line(statement.as_ptr(), statement.len(), index) }
+    }
+
+    pub(crate) fn rewrite(statement: &[u8], buffer: &mut [u8]) -> Written {
+        // SAFETY: as for a statement.
+        unsafe {
+            fervolatro_rewrite(
+                statement.as_ptr(),
+                statement.len(),
+                buffer.as_mut_ptr(),
+                buffer.len(),
+            )
+        }
+    }
 }
 
 #[cfg(not(target_arch = "x86_64"))]
 mod bridged {
-    use super::{Verdict, Written};
+    use super::{Entry, Heading, Verdict, Written};
     use std::cell::RefCell;
     use std::env;
     use std::io::{Read, Write};
@@ -102,13 +159,9 @@ mod bridged {
 
         /// Reads an answer of `N` numbers.
         fn numbers<const N: usize>(&mut self) -> [u64; N] {
-            let mut numbers = [0; N];
-            for number in &mut numbers {
-                let mut bytes = [0; 8];
-                self.receive(&mut bytes);
-                *number = u64::from_le_bytes(bytes);
-            }
-            numbers
+            let mut bytes = [[0; 8]; N];
+            self.receive(bytes.as_flattened_mut());
+            bytes.map(u64::from_le_bytes)
         }
     }
 
@@ -130,6 +183,13 @@ mod bridged {
         command
     }
 
+    /// A request: its letter, and the slice that the call reads.
+    fn request(call: u8, slice: &[u8]) -> Vec<u8> {
+        let mut request = vec![call];
+        put_slice(&mut request, slice);
+        request
+    }
+
     /// Adds a slice to a request: its length, then its bytes.
     fn put_slice(request: &mut Vec<u8>, slice: &[u8]) {
         let len = u32::try_from(slice.len()).expect("the bridge takes less than 4 GiB");
@@ -137,20 +197,17 @@ mod bridged {
         request.extend_from_slice(slice);
     }
 
-    pub(crate) fn check(book: &[u8]) -> Verdict {
-        let mut request = vec![b'c'];
-        put_slice(&mut request, book);
+    /// Sends a request, and reads its answer of `N` numbers.
+    fn ask<const N: usize>(request: &[u8]) -> [u64; N] {
         BRIDGE.with_borrow_mut(|bridge| {
-            bridge.send(&request);
-            let [refusal, place] = bridge.numbers();
-            Verdict { refusal, place }
+            bridge.send(request);
+            bridge.numbers()
         })
     }
 
-    pub(crate) fn statement(book: &[u8], account: u32, buffer: &mut [u8]) -> Written {
-        let mut request = vec![b's'];
-        put_slice(&mut request, book);
-        request.extend_from_slice(&account.to_le_bytes());
+    /// Sends a request with the buffer at its end, and reads the answer and the
+    /// buffer as the call left it.
+    fn ask_to_write(mut request: Vec<u8>, buffer: &mut [u8]) -> Written {
         put_slice(&mut request, buffer);
         BRIDGE.with_borrow_mut(|bridge| {
             bridge.send(&request);
@@ -163,9 +220,53 @@ mod bridged {
             }
         })
     }
+
+    pub(crate) fn check(book: &[u8]) -> Verdict {
+        let [refusal, place] = ask(&request(b'c', book));
+        Verdict { refusal, place }
+    }
+
+    pub(crate) fn statement(book: &[u8], account: u32, buffer: &mut [u8]) -> Written {
+        let mut request = request(b's', book);
+        request.extend_from_slice(&account.to_le_bytes());
+        ask_to_write(request, buffer)
+    }
+
+    pub(crate) fn header(statement: &[u8]) -> Heading {
+        let [refusal, place, account, date, interval, run, lines] = ask(&request(b'h', statement));
+        Heading {
+            refusal,
+            place,
+            account,
+            date,
+            interval,
+            run,
+            lines,
+        }
+    }
+
+    pub(crate) fn line(statement: &[u8], index: u64) -> Entry {
+        let mut request = request(b'l', statement);
+        request.extend_from_slice(&index.to_le_bytes());
+        let [refusal, place, id, part, regions, unit, amount] = ask(&request);
+        Entry {
+            refusal,
+            place,
+            id,
+            part,
+            regions,
+            unit,
+            // The bits are those of the signed number.
+            amount: amount.cast_signed(),
+        }
+    }
+
+    pub(crate) fn rewrite(statement: &[u8], buffer: &mut [u8]) -> Written {
+        ask_to_write(request(b'r', statement), buffer)
+    }
 }
 
 #[cfg(not(target_arch = "x86_64"))]
-pub(crate) use bridged::{check, statement};
+pub(crate) use bridged::{check, header, line, rewrite, statement};
 #[cfg(target_arch = "x86_64")]
-pub(crate) use linked::{check, statement};
+pub(crate) use linked::{check, header, line, rewrite, statement};

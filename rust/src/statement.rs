@@ -2,6 +2,7 @@
 //! scope document and none of its rules.
 
 use crate::field::{read_records, record, write_records, Field};
+use crate::{Entry, Heading};
 
 record! {
     /// The header, 24 bytes.
@@ -28,6 +29,32 @@ record! {
         unit: u32,
         reserved_mid: u32,
         amount: i64,
+    }
+}
+
+impl Header {
+    /// What the header says: all but mark, version and reserved bytes.
+    pub fn heading(&self) -> Heading {
+        Heading {
+            account: self.account,
+            date: self.date,
+            interval: self.interval,
+            run: self.run,
+            lines: self.lines,
+        }
+    }
+}
+
+impl Line {
+    /// What the line says: all but reserved bytes.
+    pub fn entry(&self) -> Entry {
+        Entry {
+            id: self.id,
+            part: self.part,
+            regions: self.regions,
+            unit: self.unit,
+            amount: self.amount,
+        }
     }
 }
 

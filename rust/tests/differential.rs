@@ -7,6 +7,7 @@ use std::fmt::Write as _;
 
 use fervolatro::book::{Book, Sections};
 use fervolatro::reference;
+use fervolatro::testing::damage::{sparse_noise, turn_bit};
 use fervolatro::testing::edges::{self, Edged};
 use fervolatro::testing::faults::{self, Fault, Spot};
 use fervolatro::testing::generate::{accepted_book, Sizes};
@@ -113,26 +114,17 @@ impl Run {
         assert_eq!(number, 0, "not accepted: {}", shown(book));
     }
 
-    /// Compares the book with one field changed, and puts the field back.
-    fn compare_with(&mut self, book: &mut [u8], record: usize, field: Edged, value: i64) {
-        let before = field.set(book, record, value);
-        self.compare(book);
-        field.store(book, record, before);
-    }
-
     fn compare_at_edges(&mut self, book: &mut [u8], record: usize, fields: &[Edged]) {
-        for field in fields {
-            for value in field.values() {
-                self.compare_with(book, record, *field, value);
-            }
-        }
+        edges::each(book, record, fields, |book| {
+            self.compare(book);
+        });
     }
 
     /// Compares the book with one bit turned, and turns it back.
     fn compare_turned(&mut self, book: &mut [u8], bit: usize) {
-        book[bit / 8] ^= 1 << (bit % 8);
+        turn_bit(book, bit);
         self.compare(book);
-        book[bit / 8] ^= 1 << (bit % 8);
+        turn_bit(book, bit);
     }
 
     /// An accepted book with up to so many records of each kind.
@@ -379,21 +371,12 @@ fn noise(run: &mut Run) {
     }
 }
 
-/// A right header and the right length; noise from some record on. Zero bytes
-/// are more likely than others, so that fields are right now and then.
+/// A right header and the right length; noise from some record on.
 fn noise_after_header(run: &mut Run) {
     for _ in 0..20_000 {
         let mut bytes = run.accepted(Sizes::SMALL).encode();
         let start = 24 + run.random.below(bytes.len() - 23);
-        let zeros = run.random.below(4);
-        for byte in &mut bytes[start..] {
-            let drawn = run.random.bits() as u8;
-            *byte = if run.random.below(4) < zeros {
-                0
-            } else {
-                drawn
-            };
-        }
+        sparse_noise(&mut run.random, &mut bytes[start..]);
         run.compare(&bytes);
     }
 }

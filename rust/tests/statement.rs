@@ -13,6 +13,7 @@ use std::fmt::Write as _;
 
 use fervolatro::book::Book;
 use fervolatro::testing::accounts::{named, share_units, some_account, spread, Holding};
+use fervolatro::testing::damage::turn_bit;
 use fervolatro::testing::faults::{self, Spot};
 use fervolatro::testing::generate::{accepted_book, book_of_longest_statement, Sizes};
 use fervolatro::testing::halves::{self, book_of_halves};
@@ -288,7 +289,7 @@ fn turned_bits(run: &mut Run) {
         let book = run.accepted(Sizes::SMALL);
         let mut bytes = book.encode();
         let bit = run.random.below(8 * bytes.len());
-        bytes[bit / 8] ^= 1 << (bit % 8);
+        turn_bit(&mut bytes, bit);
         let account = some_account(&mut run.random, &book);
         let _ = run.compare(&bytes, account, 1_000);
     }

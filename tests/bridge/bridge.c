@@ -5,7 +5,10 @@
  * A request is a letter and the arguments, a slice being a u32 length and its bytes:
  *   'c', the book: the answer is fervolatro_verdict, field by field;
  *   's', the book, a u32 account, the buffer: the answer is fervolatro_written, field by field, and
- *        then the whole buffer as the call left it.
+ *        then the whole buffer as the call left it;
+ *   'h', the statement: the answer is fervolatro_heading, field by field;
+ *   'l', the statement, a u64 index: the answer is fervolatro_entry, field by field;
+ *   'r', the statement, the buffer: the answer is as for 's'.
  * All numbers are little-endian, as both sides are. The end of the input ends the program.
  *
  * A lent buffer stands between guard bytes. If a call changes one of them, the program says so and
@@ -77,11 +80,24 @@ static void see_guards(const slice *s)
     }
 }
 
+static void take_buffer(slice *buffer)
+{
+    take_slice(buffer);
+    set_guards(buffer);
+}
+
 static void give(const void *from, size_t len)
 {
     if (len != 0 && fwrite(from, 1, len, stdout) != len) {
         exit(2);
     }
+}
+
+static void give_written(fervolatro_written written, const slice *buffer)
+{
+    see_guards(buffer);
+    give(&written, sizeof written);
+    give(buffer->bytes, buffer->len);
 }
 
 static void check(void)
@@ -94,20 +110,48 @@ static void check(void)
     give(&verdict, sizeof verdict);
 }
 
-static void statement(void)
+static void write_statement(void)
 {
     static slice book, buffer;
     uint32_t account;
-    fervolatro_written written;
 
     take_slice(&book);
     take(&account, sizeof account);
-    take_slice(&buffer);
-    set_guards(&buffer);
-    written = fervolatro_statement(book.bytes, book.len, account, buffer.bytes, buffer.len);
-    see_guards(&buffer);
-    give(&written, sizeof written);
-    give(buffer.bytes, buffer.len);
+    take_buffer(&buffer);
+    give_written(fervolatro_statement(book.bytes, book.len, account, buffer.bytes, buffer.len),
+                 &buffer);
+}
+
+static void read_header(void)
+{
+    static slice statement;
+    fervolatro_heading heading;
+
+    take_slice(&statement);
+    heading = fervolatro_header(statement.bytes, statement.len);
+    give(&heading, sizeof heading);
+}
+
+static void read_line(void)
+{
+    static slice statement;
+    uint64_t index;
+    fervolatro_entry entry;
+
+    take_slice(&statement);
+    take(&index, sizeof index);
+    entry = fervolatro_line(statement.bytes, statement.len, index);
+    give(&entry, sizeof entry);
+}
+
+static void rewrite(void)
+{
+    static slice statement, buffer;
+
+    take_slice(&statement);
+    take_buffer(&buffer);
+    give_written(fervolatro_rewrite(statement.bytes, statement.len, buffer.bytes, buffer.len),
+                 &buffer);
 }
 
 int main(void)
@@ -120,7 +164,16 @@ int main(void)
             check();
             break;
         case 's':
-            statement();
+            write_statement();
+            break;
+        case 'h':
+            read_header();
+            break;
+        case 'l':
+            read_line();
+            break;
+        case 'r':
+            rewrite();
             break;
         default:
             fail("no such call");

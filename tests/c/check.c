@@ -1,7 +1,7 @@
 /*
- * Calls the library from C, through its header, on a few books whose answers
- * are known. The path of the worked book is the one argument. Exits non-zero
- * with a message if an answer is not the expected one.
+ * Calls the library from C, through its header, on a few books and statements
+ * whose answers are known. The path of the worked book is the one argument.
+ * Exits non-zero with a message if an answer is not the expected one.
  */
 #include <inttypes.h>
 #include <stdio.h>
@@ -55,21 +55,16 @@ static void read_worked(const char *path, uint8_t book[WORKED_LEN + 1])
     }
 }
 
-/* Lends the first buffer_len bytes of a buffer, and expects the front of it to
- * be what is given and every later byte untouched. */
-static void expect_statement(const char *name, const uint8_t *book,
-                             uint32_t account, size_t buffer_len,
-                             uint64_t refusal, const uint8_t *front,
-                             size_t front_len)
+/* Expects an answer, the front of the buffer to be what is given, and every
+ * byte after the statement untouched. */
+static void expect_written(const char *name, fervolatro_written got,
+                           const uint8_t buffer[ROOM], uint64_t refusal,
+                           const uint8_t *front, size_t front_len)
 {
     uint64_t length = refusal == 0 ? STATEMENT_LEN : 0;
-    uint8_t buffer[ROOM];
-    fervolatro_written got;
     size_t at;
     int differs;
 
-    memset(buffer, UNTOUCHED, ROOM);
-    got = fervolatro_statement(book, WORKED_LEN, account, buffer, buffer_len);
     differs = memcmp(buffer, front, front_len) != 0;
     for (at = (size_t)length; at < ROOM; at++) {
         differs |= buffer[at] != UNTOUCHED;
@@ -85,6 +80,77 @@ static void expect_statement(const char *name, const uint8_t *book,
     }
 }
 
+/* Asks for a statement in the first buffer_len bytes of a buffer. */
+static void expect_statement(const char *name, const uint8_t *book,
+                             uint32_t account, size_t buffer_len,
+                             uint64_t refusal, const uint8_t *front,
+                             size_t front_len)
+{
+    uint8_t buffer[ROOM];
+    fervolatro_written got;
+
+    memset(buffer, UNTOUCHED, ROOM);
+    got = fervolatro_statement(book, WORKED_LEN, account, buffer, buffer_len);
+    expect_written(name, got, buffer, refusal, front, front_len);
+}
+
+/* Has a statement written again, into the first buffer_len bytes of a buffer,
+ * and expects it whole. */
+static void expect_rewritten(const char *name, const uint8_t *statement,
+                             size_t len, size_t buffer_len, uint64_t refusal)
+{
+    uint8_t buffer[ROOM];
+    fervolatro_written got;
+
+    memset(buffer, UNTOUCHED, ROOM);
+    got = fervolatro_rewrite(statement, len, buffer, buffer_len);
+    expect_written(name, got, buffer, refusal, statement,
+                   refusal == 0 ? len : 0);
+}
+
+/* The answers about a header and about a line are alike in this: seven fields
+ * of 64 bits, with nothing between them. */
+enum { FIELDS = 7 };
+
+_Static_assert(sizeof(fervolatro_heading) == FIELDS * sizeof(uint64_t),
+               "a heading has seven fields");
+_Static_assert(sizeof(fervolatro_entry) == FIELDS * sizeof(uint64_t),
+               "an entry has seven fields");
+
+static void expect_fields(const char *name, const void *got,
+                          const void *expected)
+{
+    uint64_t gots[FIELDS], expecteds[FIELDS];
+    size_t at;
+
+    memcpy(gots, got, sizeof gots);
+    memcpy(expecteds, expected, sizeof expecteds);
+    for (at = 0; at < FIELDS; at++) {
+        if (gots[at] != expecteds[at]) {
+            fprintf(stderr,
+                    "%s: field %zu: expected %" PRIu64 ", got %" PRIu64 "\n",
+                    name, at, expecteds[at], gots[at]);
+            failures++;
+        }
+    }
+}
+
+static void expect_heading(const char *name, const uint8_t *statement,
+                           size_t len, fervolatro_heading expected)
+{
+    fervolatro_heading got = fervolatro_header(statement, len);
+
+    expect_fields(name, &got, &expected);
+}
+
+static void expect_line(const char *name, const uint8_t *statement, size_t len,
+                        uint64_t index, fervolatro_entry expected)
+{
+    fervolatro_entry got = fervolatro_line(statement, len, index);
+
+    expect_fields(name, &got, &expected);
+}
+
 /* The statement of account 7 in the worked book, its header and its first line:
  * unit 1's FPP of 59.1300 dollars, 591,300 = 0x0905C4. */
 static const uint8_t FRONT[48] = {
@@ -95,6 +161,41 @@ static const uint8_t FRONT[48] = {
     1, 0, 0, 0, 0, 0, 0, 0,            /* unit 1 */
     0xC4, 0x05, 9, 0, 0, 0, 0, 0,      /* amount 591,300 */
 };
+
+/* Reads account 7's statement of the worked book back. Its lines are those of
+ * the listing in the scope document, its amounts in ten-thousandths of a
+ * dollar. */
+static void read_back(const uint8_t *book)
+{
+    static const fervolatro_heading heading = {0, 0, 7, 20250608, 1, 1, 12};
+    static const fervolatro_heading no_heading = {14, 0, 0, 0, 0, 0, 0};
+    static const fervolatro_entry no_statement = {14, 0, 0, 0, 0, 0, 0};
+    static const fervolatro_entry no_line = {15, 0, 0, 0, 0, 0, 0};
+    static const fervolatro_entry first = {0, 0, 500, 3, 1, 1, 591300};
+    static const fervolatro_entry third = {0, 0, 500, 5, 1, 1, -335071};
+    static const fervolatro_entry last = {0, 0, 500, 8, 1, 0, -26177};
+    enum { LEN = STATEMENT_LEN };
+    uint8_t statement[LEN] = {0};
+
+    fervolatro_statement(book, WORKED_LEN, 7, statement, LEN);
+    expect_heading("header", statement, LEN, heading);
+    expect_heading("header of no bytes", statement, 0, no_heading);
+    expect_heading("header, one byte short", statement, LEN - 1, no_heading);
+
+    expect_line("line 0", statement, LEN, 0, first);
+    expect_line("line 2", statement, LEN, 2, third);
+    expect_line("line 11", statement, LEN, 11, last);
+    expect_line("line 12", statement, LEN, 12, no_line);
+    expect_line("line 2^64 - 1", statement, LEN, UINT64_MAX, no_line);
+    expect_line("line 12, one byte short", statement, LEN - 1, 12,
+                no_statement);
+
+    expect_rewritten("rewritten", statement, LEN, LEN, 0);
+    expect_rewritten("rewritten, room to spare", statement, LEN, ROOM, 0);
+    expect_rewritten("rewritten, room one short", statement, LEN, LEN - 1, 13);
+    expect_rewritten("rewritten, both one short", statement, LEN - 1, LEN - 2,
+                     14);
+}
 
 int main(int argc, char **argv)
 {
@@ -118,6 +219,7 @@ int main(int argc, char **argv)
                      sizeof FRONT);
     expect_statement("room one short", book, 7, STATEMENT_LEN - 1, 13, FRONT, 0);
     expect_statement("account 8", book, 8, STATEMENT_LEN, 11, FRONT, 0);
+    read_back(book);
 
     /* Usage 400,000 is 0x00061A80; with a high byte of 1 it passes 1,000,000. */
     book[USAGE_AT + 3] = 1;

@@ -7,6 +7,8 @@ use native.Mathlib.Omega.{arith}
 use native.Mathlib.Numerals.{add-one}
 use native.Mathlib.Nat.{eq-or-lt-of-le, not-suc-le-zero, le-of-suc-le-suc, le-refl}
 use lib.ListN.{length, length-append}
+use Rattle.ground.specs.Each.{Each}
+use Rattle.ground.proofs.Each.{each-append}
 use Rattle.accounts.specs.Rows.{joined}
 use Rattle.sections.specs.Total.{total}
 use Rattle.sections.proofs.Search.{to-zero}
@@ -66,3 +68,9 @@ pub joined-same : {A : Type 0} (f g : ℕ → List A) (n : ℕ) → ((k : ℕ) �
 unfolding joined
 joined-same f g zero h = refl
 joined-same f g (suc n) h = ap₂ _++_ (joined-same f g n (λ k l. h k (omega arith))) (h n (le-refl (suc n)))
+
+-- what holds of each element of each list holds of each of the lists joined
+pub each-joined : {A : Type 0} (P : A → Type 0) (f : ℕ → List A) (n : ℕ) → ((k : ℕ) → k < n → Each P (f k)) → Each P (joined f n)
+unfolding joined
+each-joined P f zero h = tt
+each-joined P f (suc n) h = each-append P (joined f n) (f n) (each-joined P f n (λ k l. h k (omega arith))) (h n (le-refl (suc n)))

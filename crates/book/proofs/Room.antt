@@ -3,17 +3,12 @@ use Prim.Native.Nat.{ℕ, _*_, _-_, _≤_, _<_}
 use mathlib.Core.List.{List}
 use mathlib.Core.Path.{_≡_}
 use native.Mathlib.Omega.{arith}
-use native.Mathlib.Nat.{le-of-eq}
-use lib.ListN.{length, drop, length-drop}
-use lib.Seq.{take-all}
+use lib.ListN.{length, length-drop}
 use Rattle.ground.specs.Bytes.{partFrom}
+use Rattle.ground.proofs.Part.{part-drop}
 use Rattle.book.specs.declared.header.Header.{Header}
 use Rattle.book.specs.Header.{unitsFrom, energiesFrom, contractsFrom}
 use Rattle.book.specs.Facts.{Laid}
-
--- the part from a on is what is left there
-pub part-drop : (a : ℕ) (l : List ℕ) → partFrom a l ≡ drop a l
-part-drop a l = take-all (length l - a) (drop a l) (le-of-eq (length-drop a l))
 
 part-long : (a : ℕ) (b : List ℕ) → length (partFrom a b) ≡ length b - a
 part-long a b = rw (part-drop a b) (length-drop a b)

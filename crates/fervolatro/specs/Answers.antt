@@ -1,4 +1,4 @@
--- What a caller in C or Rust is answered for each case of a verdict, of a written statement and of one that is read.
+-- What a caller in C or Rust is answered for each case of a verdict, of a written statement, of one that is read, and of a pool's balance.
 use Rattle.sections.specs.declared.Verdict.{Verdict}
 use Rattle.sections.specs.declared.Verdict.the-variants.{Accepted, Refused}
 use Prim.Native.Nat.{ℕ}
@@ -12,10 +12,13 @@ use Rattle.reading.specs.declared.HeadingRead.{HeadingRead}
 use Rattle.reading.specs.declared.HeadingRead.the-variants as heading
 use Rattle.reading.specs.declared.LineRead.{LineRead}
 use Rattle.reading.specs.declared.LineRead.the-variants as line
+use Rattle.balance.specs.declared.Balanced.{Balanced}
+use Rattle.balance.specs.declared.Balanced.the-variants as balanced
 use Rattle.fervolatro.specs.declared.VerdictAnswer.{VerdictAnswer}
 use Rattle.fervolatro.specs.declared.WrittenAnswer.{WrittenAnswer}
 use Rattle.fervolatro.specs.declared.HeadingAnswer.{HeadingAnswer}
 use Rattle.fervolatro.specs.declared.EntryAnswer.{EntryAnswer}
+use Rattle.fervolatro.specs.declared.PoolAnswer.{PoolAnswer}
 
 -- 01, Refusals: "A refusal answers its number and place"; acceptance is number 0 at place 0
 unfoldable pub verdictAnswer : Verdict → VerdictAnswer
@@ -43,3 +46,7 @@ entryAnswer (line.Line l) =
     record { refusal = 0; place = 0; id = l .id; part = l .part; regions = l .regions; unit = l .unit; amount = l .amount }
 entryAnswer (line.Refused number place) =
     record { refusal = number; place = place; id = 0; part = 0; regions = 0; unit = 0; amount = pos 0 }
+
+unfoldable pub poolAnswer : Balanced → PoolAnswer
+poolAnswer (balanced.Pool b) = record { refusal = 0; place = 0; amount = b .amount; lines = b .lines; sum = b .sum }
+poolAnswer (balanced.Refused number place) = record { refusal = number; place = place; amount = pos 0; lines = 0; sum = pos 0 }

@@ -4,7 +4,9 @@ ghost use Rattle.book.specs.Table.{verdict};
 ghost use Rattle.reading.specs.Calls.{headingRead, lineRead};
 ghost use Rattle.rewriting.specs.Rewriting.{rewritten};
 ghost use Rattle.settlement.specs.Settle.{outcome};
-ghost use Rattle.fervolatro.specs.Answers.{verdictAnswer, writtenAnswer, headingAnswer, entryAnswer, Called};
+ghost use Rattle.balance.specs.Balance.{balanceOf};
+ghost use Rattle.fervolatro.specs.Answers.{verdictAnswer, writtenAnswer, headingAnswer, entryAnswer, poolAnswer, Called};
+use balance::Balanced;
 use reading::HeadingRead;
 use reading::LineRead;
 use sections::Verdict;
@@ -173,4 +175,43 @@ pub extern "C" fn fervolatro_rewrite(bytes: &[u8], buffer: &mut [u8]) -> Written
     ensures { λ r. ⌜ Called (rewritten (now (bytes .entry))) (now (buffer .entry)) r (now (buffer .exit)) ⌝ }
 {
     written(rewriting::rewrite(bytes, buffer))
+}
+
+// `fervolatro_pool`: refusal 0 is success, and then the other fields are the pool's balance.
+#[repr(C)]
+pub struct PoolAnswer {
+    pub refusal: u64,
+    pub place: u64,
+    pub amount: i64,
+    pub lines: u64,
+    pub sum: i64,
+}
+
+fn pool(b: Balanced) -> PoolAnswer
+    ensures { λ r. ⌜ r ≡ poolAnswer b ⌝ }
+{
+    match b {
+        Balanced::Pool(x) => PoolAnswer {
+            refusal: 0,
+            place: 0,
+            amount: x.amount,
+            lines: x.lines as u64,
+            sum: x.sum,
+        },
+        Balanced::Refused(number, place) => PoolAnswer {
+            refusal: number as u64,
+            place: place as u64,
+            amount: 0,
+            lines: 0,
+            sum: 0,
+        },
+    }
+}
+
+// The balance of the pool of a number from 0.
+#[no_mangle]
+pub extern "C" fn fervolatro_balance(book: &[u8], number: u64) -> PoolAnswer
+    ensures { λ r. ⌜ r ≡ poolAnswer (balanceOf (now (book .entry)) number) ⌝ }
+{
+    pool(balance::pool_balance(book, number))
 }

@@ -2,3 +2,4 @@ pub mod Read
 pub mod Whole
 pub mod Ends
 pub mod Trip
+pub mod Written

@@ -74,6 +74,11 @@ module _ (p : ℕ → Bool) where
       (λ (j : k < n). all-each n (left (all p n) (p n) e) k j)
       (eq-or-lt-of-le (le-of-suc-le-suc l))
 
+  pub all-of : (n : ℕ) → ((k : ℕ) → k < n → p k ≡ true) → all p n ≡ true
+  unfolding all
+  all-of zero h = refl
+  all-of (suc n) h = rw (all-of n (λ k l. h k (omega arith)), h n (le-refl (suc n)))
+
   -- a loop that tests one record after the other: its start, a turn whose test passed, one whose test failed, its end
   pub all-none : all p 0 ≡ true
   unfolding all

@@ -50,17 +50,20 @@ fn mark_is_right(header: &Header) -> bool {
 
 // Check 3: "interval, date, run or a count out of its range".
 
-/// "Interval u16, 1 to 288; date u32 as YYYYMMDD, a real date in 2025 to 2099;
-/// run u16, 1 to 99; counts u16 of constraints (0 to 64), unit rows (0 to 600),
-/// energy rows (0 to 1,024), contracts (0 to 16)."
+/// "Counts u16 of constraints (0 to 64), unit rows (0 to 600), energy rows (0 to
+/// 1,024), contracts (0 to 16)."
 fn header_is_in_range(header: &Header) -> bool {
-    (1..=288).contains(&header.interval)
-        && is_date_in_range(header.date)
-        && (1..=99).contains(&header.run)
+    period_is_in_range(header.interval, header.date, header.run)
         && header.constraints <= 64
         && header.units <= 600
         && header.energies <= 1_024
         && header.contracts <= 16
+}
+
+/// "Interval u16, 1 to 288; date u32 as YYYYMMDD, a real date in 2025 to 2099;
+/// run u16, 1 to 99."
+pub(super) fn period_is_in_range(interval: u16, date: u32, run: u16) -> bool {
+    (1..=288).contains(&interval) && is_date_in_range(date) && (1..=99).contains(&run)
 }
 
 fn is_date_in_range(date: u32) -> bool {

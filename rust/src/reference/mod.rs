@@ -5,11 +5,13 @@
 mod amounts;
 mod check;
 mod listing;
+mod reading;
 mod statement;
 
 pub use amounts::round;
 pub use check::check;
 pub use listing::{listed, listing};
+pub use reading::{header, line, read, rewrite};
 pub use statement::{settle, statement};
 
 use crate::Refusal;

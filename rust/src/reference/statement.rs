@@ -9,11 +9,16 @@ use crate::Refusal;
 /// "A line would pass 50,000,000,000 either way."
 const LINE_LIMIT: i64 = 50_000_000_000;
 
-/// "A statement then looks for 11, 12, 13." "A refusal answers its number and
+/// "A statement then looks for 11, 12, 13."
+pub fn statement(bytes: &[u8], account: u32, buffer: &mut [u8]) -> Result<usize, Refusal> {
+    write(&settle(bytes, account)?, buffer)
+}
+
+/// 13: "lent buffer shorter than the statement". "A refusal answers its number and
 /// place, ... and the lent buffer holds what it held. Success writes exactly the
 /// statement at the front and answers its length; later bytes stay."
-pub fn statement(bytes: &[u8], account: u32, buffer: &mut [u8]) -> Result<usize, Refusal> {
-    let written = settle(bytes, account)?.encode();
+pub(super) fn write(statement: &Statement, buffer: &mut [u8]) -> Result<usize, Refusal> {
+    let written = statement.encode();
     refuse_unless(13, buffer.len() >= written.len())?;
     buffer[..written.len()].copy_from_slice(&written);
     Ok(written.len())
@@ -25,9 +30,12 @@ pub fn settle(bytes: &[u8], account: u32) -> Result<Statement, Refusal> {
     let book = Book::decode(bytes);
     refuse_unless(11, is_named(&book, account))?;
     let statement = Settlement::of(&book, account).statement();
-    let within = |line: &Line| (-LINE_LIMIT..=LINE_LIMIT).contains(&line.amount);
-    refuse_unless(12, statement.lines.iter().all(within))?;
+    refuse_unless(12, statement.lines.iter().all(is_within_limit))?;
     Ok(statement)
+}
+
+pub(super) fn is_within_limit(line: &Line) -> bool {
+    (-LINE_LIMIT..=LINE_LIMIT).contains(&line.amount)
 }
 
 /// 11: "no unit row and no energy row names the account".

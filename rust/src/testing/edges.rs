@@ -1,5 +1,5 @@
 //! The range of every field of every record, to set a field just inside and just
-//! past each end of it, in the bytes of a book and back again.
+//! past each end of it, in the bytes of a book or a statement and back again.
 
 use crate::book::{Section, Sections};
 
@@ -112,6 +112,43 @@ pub const CONTRACT: &[Edged] = &[
     field(32, 4, 0, WHOLE),
 ];
 
+pub const STATEMENT_HEADER: &[Edged] = &[
+    field(0, 1, b'R' as i64, b'R' as i64),
+    field(1, 1, b'C' as i64, b'C' as i64),
+    field(2, 1, b'S' as i64, b'S' as i64),
+    reserved(3),
+    field(4, 2, 1, 1),
+    field(6, 2, 1, 288),
+    field(8, 4, 20_250_101, 20_991_231),
+    field(12, 2, 1, 99),
+    field(14, 2, 0, 2_152),
+    name(16),
+    reserved(20),
+    reserved(21),
+    reserved(22),
+    reserved(23),
+];
+
+/// The part decides what the other fields may be, so some stand here with two
+/// ranges: regions one or more bits, the unit 0 or from 1, the amount of any sign
+/// or not positive.
+pub const LINE: &[Edged] = &[
+    name(0),
+    field(4, 1, 1, 10),
+    field(5, 1, 1, 31),
+    field(5, 1, 1, 16),
+    reserved(6),
+    reserved(7),
+    field(8, 4, 0, 0),
+    name(8),
+    reserved(12),
+    reserved(13),
+    reserved(14),
+    reserved(15),
+    field(16, 8, -MONEY, MONEY),
+    field(16, 8, -MONEY, 0),
+];
+
 /// Each section of a book with the fields of its records.
 pub fn by_section(sections: &Sections) -> [(Section, &'static [Edged]); 5] {
     [
@@ -144,16 +181,28 @@ impl Edged {
 
     /// Sets the field of the record at `record` and gives the bytes it had. A
     /// value too wide for the field loses its upper bytes.
-    pub fn set(&self, book: &mut [u8], record: usize, value: i64) -> [u8; 8] {
-        self.store(book, record, value.to_le_bytes())
+    pub fn set(&self, whole: &mut [u8], record: usize, value: i64) -> [u8; 8] {
+        self.store(whole, record, value.to_le_bytes())
     }
 
     /// Stores bytes in the field, the front ones, and gives those it had.
-    pub fn store(&self, book: &mut [u8], record: usize, bytes: [u8; 8]) -> [u8; 8] {
+    fn store(&self, whole: &mut [u8], record: usize, bytes: [u8; 8]) -> [u8; 8] {
         let mut before = [0; 8];
-        let field = &mut book[record + self.at..][..self.width];
+        let field = &mut whole[record + self.at..][..self.width];
         before[..self.width].copy_from_slice(field);
         field.copy_from_slice(&bytes[..self.width]);
         before
+    }
+}
+
+/// Shows the whole with each field of the record at each of its values, one at a
+/// time, and puts the field back.
+pub fn each(whole: &mut [u8], record: usize, fields: &[Edged], mut show: impl FnMut(&[u8])) {
+    for field in fields {
+        for value in field.values() {
+            let before = field.set(whole, record, value);
+            show(whole);
+            field.store(whole, record, before);
+        }
     }
 }

@@ -121,7 +121,7 @@ pub fn book_of_longest_statement(random: &mut Random) -> (Book, u32) {
 }
 
 /// Every month has 28 days; the other dates have tests of their own.
-fn header(random: &mut Random) -> Header {
+pub(super) fn header(random: &mut Random) -> Header {
     let year = random.edged(2025, 2099);
     let month = random.edged(1, 12);
     let day = random.edged(1, 28);

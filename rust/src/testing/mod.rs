@@ -1,8 +1,9 @@
-//! What the tests build books with: repeatable random numbers, the worked book,
-//! accepted books of every size, the accounts in them, and the ways in which a
-//! book can be wrong, or right but different.
+//! What the tests build books and statements with: repeatable random numbers, the
+//! worked book, accepted books of every size, the accounts in them, statements of
+//! any lines, and the ways in which either can be wrong, or right but different.
 
 pub mod accounts;
+pub mod damage;
 pub mod edges;
 pub mod faults;
 pub mod generate;
@@ -11,4 +12,5 @@ pub mod lent;
 pub mod neighbours;
 pub mod random;
 pub mod report;
+pub mod statements;
 pub mod worked;

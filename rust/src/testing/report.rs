@@ -6,7 +6,7 @@ use std::io::{self, Write as _};
 
 const DEFAULT_SEED: u64 = 20_250_608;
 
-/// Books up to this length are printed whole.
+/// Bytes up to this length are printed whole.
 const SHORT: usize = 1_024;
 
 /// The seed of a run: that of the environment variable FERVOLATRO_SEED if it is
@@ -18,13 +18,13 @@ pub fn seed() -> u64 {
     }
 }
 
-/// A book for a message, in hexadecimal digits if it is short.
-pub fn shown(book: &[u8]) -> String {
-    if book.len() > SHORT {
-        return format!("book of {} bytes", book.len());
+/// A book or a statement for a message, in hexadecimal digits if it is short.
+pub fn shown(bytes: &[u8]) -> String {
+    if bytes.len() > SHORT {
+        return format!("{} bytes", bytes.len());
     }
-    let mut shown = String::from("book ");
-    for byte in book {
+    let mut shown = String::from("bytes ");
+    for byte in bytes {
         write!(shown, "{byte:02x}").expect("a string takes it");
     }
     shown

@@ -1,6 +1,7 @@
 //! The worked interval of the scope document, field by field.
 
 use crate::book::{Book, Constraint, EnergyRow, Header, UnitRow};
+use crate::statement::{self, Line, Statement};
 
 /// A book without records: 84 bytes, accepted.
 pub fn empty_book() -> Book {
@@ -49,6 +50,56 @@ pub fn worked_book() -> Book {
     book.regions[0].asoe = 585_000;
     book.regions[0].residual = 1_600_000;
     book
+}
+
+/// A statement of account 7 without lines: 24 bytes, and a statement.
+pub fn empty_statement() -> Statement {
+    Statement {
+        header: statement::Header {
+            mark: *b"RCS",
+            version: 1,
+            interval: 1,
+            date: 20_250_608,
+            run: 1,
+            account: 7,
+            ..statement::Header::default()
+        },
+        lines: Vec::new(),
+    }
+}
+
+/// Account 7's statement of the worked book, 312 bytes. The lines are those of the
+/// scope document's listing: $59.1300 is 591,300 units of money.
+pub fn worked_statement() -> Statement {
+    let mut statement = empty_statement();
+    statement.header.lines = 12;
+    statement.lines = vec![
+        line(3, 1, 591_300),
+        line(4, 1, 0),
+        line(5, 1, -335_071),
+        line(3, 2, -147_825),
+        line(4, 2, -111_690),
+        line(5, 2, -83_768),
+        line(3, 3, 221_738),
+        line(4, 3, 0),
+        line(5, 3, 0),
+        line(6, 0, -27_717),
+        line(7, 0, -20_942),
+        line(8, 0, -26_177),
+    ];
+    statement
+}
+
+/// A line of constraint 500, regions 1: part, unit, amount.
+fn line(part: u8, unit: u32, amount: i64) -> Line {
+    Line {
+        id: 500,
+        part,
+        regions: 1,
+        unit,
+        amount,
+        ..Line::default()
+    }
 }
 
 /// A unit row: constraint, unit, account, CF, DCF.

@@ -1,0 +1,4 @@
+pub mod Lines
+pub mod Lists
+pub mod Call
+pub mod Trip

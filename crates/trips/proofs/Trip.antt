@@ -1,0 +1,72 @@
+-- Demand 2, the first round trip: every statement that the settlement call writes is accepted by the reader, and reading gives back its
+-- header and its lines, all fields, in order. It speaks of the definitions that the calls' contracts cite. Assumes nothing.
+use Prim.Native.Nat.{ℕ, _^_, _≤_, _<_}
+use mathlib.Core.Path.{_≡_, refl, ap, _∙_}
+use mathlib.Core.List.{List, [], _∷_}
+use borrow.Author.Tests.{le-leb}
+use lib.Dec.{leb}
+use lib.ListN.{length}
+use Rattle.ground.specs.Bytes.{part, AreBytes}
+use Rattle.ground.specs.Each.{Each}
+use Rattle.ground.proofs.Every.{all}
+use Rattle.calendar.specs.Calendar.{isPeriod}
+use Rattle.book.specs.Book.{Book, bookOf}
+use Rattle.book.specs.Accepted.{Promise}
+use Rattle.book.proofs.Promise.{accepted}
+use Rattle.accounts.specs.Account.{Public, Rows, publicOf, rowsOfAccount}
+use Rattle.statement.specs.Statement.{statementBytes}
+use Rattle.statement.specs.Lent.{gives, Lent}
+use Rattle.statement.specs.declared.Heading.{Heading}
+use Rattle.statement.specs.declared.Written.the-variants.{Length}
+use Rattle.statement.proofs.Lent.{lent-front}
+use Rattle.reading.specs.Reading.{headingAt, linesIn}
+use Rattle.reading.specs.Writable.{WritableHeading, WritableLine}
+use Rattle.reading.proofs.Written.{heading-back, lines-back, written-accepted}
+use Rattle.settlement.specs.Settle.{linesOf, headingOf, statementOf, outcome}
+use Rattle.trips.specs.ReadBack.{ReadBack}
+use Rattle.trips.proofs.Lists.{book-due, due-written}
+use Rattle.trips.proofs.Call.{passed, account-low, owned, narrow}
+
+-- the header of an accepted book's statement is in range
+heading-written : (B : Book) → Promise B → (account n : ℕ) → 1 ≤ account → account < 2 ^ 32 → n ≤ 2152 → WritableHeading (headingOf account (publicOf B) n) n
+unfolding publicOf
+heading-written B p account n low small few =
+    record {
+      ok =
+          all (isPeriod (B .header .interval) (B .header .date) (B .header .run) ∷ leb n 2152 ∷ leb 1 account ∷ [])
+          (p .period, (le-leb n 2152 few, (le-leb 1 account low, tt)));
+      account = small;
+      count = refl;
+    }
+
+-- a header and lines that are in range are read back
+read-back : (public : Public) (rows : Rows) (account : ℕ) → WritableHeading (headingOf account public (length (linesOf public rows))) (length (linesOf public rows)) → Each WritableLine (linesOf public rows) → ReadBack public rows account (statementBytes (headingOf account public (length (linesOf public rows))) (linesOf public rows))
+read-back public rows account w v =
+    let ls = linesOf public rows in
+    let h = headingOf account public (length ls) in
+    let head : headingAt (statementBytes h ls) ≡ h = heading-back h ls w in
+    record {
+      accepted = written-accepted h ls w v;
+      heading = head;
+      lines = ap (λ (x : Heading). linesIn (statementBytes h ls) (x .lines)) head ∙ lines-back h ls v;
+    }
+
+pub written-and-read : (b : List ℕ) (account : ℕ) (xs : List ℕ) → AreBytes b → account < 2 ^ 32 → outcome b account ≡ gives xs → ReadBack (publicOf (bookOf b)) (rowsOfAccount (bookOf b) account) account xs
+unfolding statementOf
+written-and-read b account xs bytes small e =
+    let B = bookOf b in
+    let s = passed b account xs e in
+    let p = accepted b (s .book) .promise in
+    let o = owned B p account (s .known) in
+    let ls = linesOf (publicOf B) (rowsOfAccount B account) in
+    let few : length ls ≤ 2152 = rw (o .lines) (o .few) in
+    rw (s .bytes)
+    (read-back (publicOf B) (rowsOfAccount B account) account
+    (heading-written B p account (length ls) (account-low B p account (s .known)) small few)
+    (due-written ls (rw (o .lines) (book-due B p (narrow b bytes) account _)) (s .under)))
+
+-- the same of a call's answer and of what it leaves in a lent buffer l: where it answers a length, that many bytes at the front are the
+-- statement that is read back
+pub left-and-read : (b : List ℕ) (account : ℕ) (l : List ℕ) (n : ℕ) (x : List ℕ) → AreBytes b → account < 2 ^ 32 → Lent (outcome b account) l (Length n) x → ReadBack (publicOf (bookOf b)) (rowsOfAccount (bookOf b) account) account (part x 0 n)
+left-and-read b account l n x bytes small h =
+    written-and-read b account (part x 0 n) bytes small (lent-front (outcome b account) l n x h)
