@@ -1,24 +1,27 @@
 -- All accounts of a book: who they are, each once, and that sums over them count each row once. Assumes nothing.
-use Prim.Native.Nat.{ℕ, _+_, _≤_, _<_}
-use mathlib.Core.Path.{_≡_, refl, ap, _∙_, sym}
+use Prim.Native.Nat.{ℕ, _+_, _*_, _≤_, _<_}
+use mathlib.Core.Path.{_≡_, refl, _∙_, sym}
 use mathlib.Core.List.{[]}
-use mathlib.Core.Bool.{Bool, true, false, cond, _||_, or-true, or-false}
+use mathlib.Core.Bool.{Bool, true, false, cond, not, _&&_, _||_, or-true, or-false}
 use native.Mathlib.Omega.{arith}
 use native.Mathlib.Nat.{mul-zero}
-use borrow.Author.Tests.{eqb-true}
 use lib.Dec.{eqb}
 use lib.ListN.{length}
+use Rattle.ground.specs.Round.{roundN}
 use Rattle.ground.proofs.Rounding.{round-zero}
 use Rattle.sections.specs.Total.{total}
 use Rattle.sections.specs.Search.{some}
 use Rattle.sections.proofs.Total.{total-zero}
 use Rattle.records.specs.declared.rows.UnitRow.{UnitRow}
 use Rattle.records.specs.declared.rows.EnergyRow.{EnergyRow}
-use Rattle.accounts.specs.Rows.{sumOf}
+use Rattle.book.specs.Book.{Book}
+use Rattle.accounts.specs.Rows.{sumOf, none}
+use Rattle.accounts.specs.Account.{rowsOfAccount, unknown}
+use Rattle.accounts.proofs.Lists.{some-rows}
 use Rattle.parties.specs.Once.{has, named, seen, times}
 use Rattle.parties.specs.Parties.{energyAccount, unitAccount, accountsIn, energyIn, ownIn, shareIn, partSum}
 use Rattle.parties.specs.declared.shares.Part.{Part}
-use Rattle.parties.proofs.Once.{seen-each, has-named, unseen, once-named, once-none, length-named, sum-each, sum-named}
+use Rattle.parties.proofs.Once.{seen-each, unseen-each, has-named, unseen, once-named, once-none, length-named, sum-each, sum-named}
 
 -- ---- the accounts
 
@@ -54,22 +57,33 @@ module _ (energy : ℕ → EnergyRow) (n : ℕ) (unit : ℕ → UnitRow) (m : �
       sum-each (unitAccount unit) f (accountsIn energy n unit m) m
       (λ k l. stands-once (unit k .account) ∙ rw (is-account (unit k .account), seen-each (unitAccount unit) m k l))
 
+-- the accounts are those that 11 lets pass
+pub let-pass : (B : Book) (a : ℕ) → has a (accountsIn (B .energy) (B .header .energies) (B .unit) (B .header .units)) ≡ not (unknown (rowsOfAccount B a))
+unfolding rowsOfAccount
+let-pass B a =
+    is-account (B .energy) (B .header .energies) (B .unit) (B .header .units) a
+    ∙ rw (some-rows (B .unit) (λ r. eqb (r .account) a) (B .header .units), some-rows (B .energy) (λ r. eqb (r .account) a) (B .header .energies)) (by (none (rowsOfAccount B a .units)) (none (rowsOfAccount B a .energies)))
+  where
+    by : (s t : Bool) → (not s || not t) ≡ not (s && t)
+    by true t = refl
+    by false t = refl
+
 -- ---- shares
+
+-- a share of nothing
+pub share-nothing : (amount whole : ℕ) {own : ℕ} → own ≡ 0 → 0 ≡ roundN (amount * own) whole
+share-nothing amount whole e = rw (e, mul-zero) (sym (round-zero whole))
 
 module _ (p : Part) (energy : ℕ → EnergyRow) (n : ℕ) where
   -- who is in no energy row has no energy
   pub own-none : (a : ℕ) → seen (energyAccount energy) n a ≡ false → ownIn p energy n a ≡ 0
   unfolding ownIn
-  own-none a e = sym (total-zero _ n (λ k l. by k l (eqb (energy k .account) a) refl))
-    where
-      by : (k : ℕ) → k < n → (t : Bool) → eqb (energy k .account) a ≡ t → cond t (energyIn p (energy k)) 0 ≡ 0
-      by k l true q = absurd (let z : _≡_ {A = Bool} true false = sym (seen-each (energyAccount energy) n k l) ∙ ap (seen (energyAccount energy) n) (eqb-true (energy k .account) a q) ∙ e in let y : _≡_ {A = ℕ} 0 1 = cc in omega arith)
-      by k l false q = refl
+  own-none a e = sym (total-zero _ n (λ k l. rw (unseen-each (energyAccount energy) n a e k l)))
 
   -- and a share of 0
   pub share-none : (a : ℕ) → seen (energyAccount energy) n a ≡ false → shareIn p energy n a ≡ 0
   unfolding shareIn
-  share-none a e = rw (own-none a e, mul-zero) (round-zero (p .whole))
+  share-none a e = sym (share-nothing (p .amount) (p .whole) (own-none a e))
 
   module _ (unit : ℕ → UnitRow) (m : ℕ) where
     -- so the shares of all accounts are those of the accounts that energy rows name

@@ -2,3 +2,5 @@ pub mod Sums
 pub mod Once
 pub mod Everyone
 pub mod Closing
+pub mod Counting
+pub mod Groups

@@ -29,10 +29,15 @@ module _ (name : ℕ → ℕ) where
       (λ (l : k < n). rw (seen-each n k l))
       (eq-or-lt-of-le (le-of-suc-le-suc h))
 
-  -- a name that no record gives is not
+  -- a name that no record gives is not seen
   pub seen-none : (n a : ℕ) → ((k : ℕ) → k < n → name k ≡ a → ⊥) → seen name n a ≡ false
   unfolding seen
   seen-none n a h = some-none _ n (λ k l. ne-eqb (name k) a (h k l))
+
+  -- nor does any record give a name that is not seen
+  pub unseen-each : (n a : ℕ) → seen name n a ≡ false → (k : ℕ) → k < n → eqb (name k) a ≡ false
+  unseen-each n a e k l =
+      ne-eqb (name k) a (λ (q : name k ≡ a). let z : _≡_ {A = ℕ} 0 1 = cc (seen-each n k l) in omega arith)
 
 -- ---- which names stand in a list
 

@@ -1,3 +1,4 @@
 pub mod Once
 pub mod Parties
 pub mod Within
+pub mod Groups

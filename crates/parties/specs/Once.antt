@@ -27,3 +27,7 @@ seen name n a = some (λ i. eqb (name i) a) n
 unfoldable pub times : ℕ → List ℕ → ℕ
 times a [] = 0
 times a (x ∷ l) = cond (eqb x a) 1 0 + times a l
+
+-- what a record adds to the number of names: nothing where its name is known, else 1
+abbrev pub newly : Bool → ℕ
+newly known = cond known 0 1

@@ -1,4 +1,16 @@
-// A part of a pool that is shared by energy.
+// A part of a pool that is shared by energy: what the rounded shares of all accounts sum to, in one pass over the energy rows.
+ghost use mathlib.Core.Path.{_≡_};
+ghost use Prim.Native.Nat.{_*_, _≤_, _<_};
+ghost use lib.ListN.{length};
+ghost use Rattle.ground.specs.Round.{roundN};
+ghost use Rattle.sections.specs.Walk.{Stands};
+ghost use Rattle.records.specs.Facts.{EnergyRule};
+ghost use Rattle.records.specs.Rows.{energyRow};
+ghost use Rattle.parties.specs.Groups.{GroupIs};
+ghost use Rattle.parties.specs.Parties.{energyAccount, byBasis, energyIn, partSum, Sorted, Shareable};
+use records::kinds::Region;
+use records::rows;
+use records::rows::EnergyRow;
 
 // By which energy a part is shared: that consumed, that sent out, or the residual of both.
 pub enum Basis {
@@ -13,4 +25,85 @@ pub struct Part {
     pub whole: u64,
     pub mask: u8,
     pub basis: Basis,
+}
+
+// What one account owns in a part, and the row behind its last.
+struct Group {
+    own: u64,
+    end: usize,
+}
+
+fn by_basis(basis: Basis, r: EnergyRow) -> u64
+    ensures { λ x. ⌜ x ≡ byBasis basis r ⌝ }
+{
+    match basis {
+        Basis::Ace => r.ace as u64,
+        Basis::Asoe => r.asoe as u64,
+        Basis::Residual => (r.race as u64) + (r.rasoe as u64),
+    }
+}
+
+// The energy of a row that a part counts.
+fn energy_in(p: Part, r: EnergyRow) -> u64
+    requires { ⌜ EnergyRule r ⌝ }
+    ensures { λ x. ⌜ x ≡ energyIn p r ⌝ }
+{
+    let basis = p.basis;
+    if Region::of(r.region).is_in(p.mask) {
+        return by_basis(basis, r);
+    }
+    0
+}
+
+// The rows of one account, from the first of them on: they stand side by side.
+fn gather(energy: &[u8], n: usize, from: usize, p: Part) -> Group
+    requires { ⌜ (n * 24 ≤ length (now energy)) × (from < n) ⌝ }
+    requires { ⌜ Sorted (energyRow (now energy)) n ⌝ }
+    requires { ⌜ Stands (energyAccount (energyRow (now energy))) n (energyRow (now energy) from .account) from ⌝ }
+    ensures { λ g. ⌜ GroupIs p (energyRow (now (energy .entry))) n from g ⌝ }
+{
+    let account = rows::energy_row(energy, from).account;
+    let mut own: u64 = 0;
+    let mut j = from;
+    while j < n {
+        let r = rows::energy_row(energy, j);
+        if r.account != account {
+            return Group { own, end: j };
+        }
+        own += energy_in(p, r);
+        j += 1;
+    }
+    Group { own, end: j }
+}
+
+// The rounded share of what an account owns. One without energy in the part's regions owns nothing, and needs no division.
+fn share_of(p: Part, own: u64) -> u64
+    requires { ⌜ (p .amount ≤ 50000000000) × ((own ≤ p .whole) × ((0 < p .whole) × (p .whole ≤ 100000000))) ⌝ }
+    ensures { λ x. ⌜ x ≡ roundN (p .amount * own) (p .whole) ⌝ }
+{
+    if own == 0 {
+        return 0;
+    }
+    amounts::shares::share(p.amount, own, p.whole)
+}
+
+// The rounded shares of all accounts, summed. The energy rows are sorted by account, so each share is made as the rows pass.
+pub fn part_sum(energy: &[u8], n: usize, p: Part) -> u64
+    requires { ⌜ n * 24 ≤ length (now energy) ⌝ }
+    requires { ⌜ Sorted (energyRow (now energy)) n ⌝ }
+    requires { ⌜ Shareable p (energyRow (now energy)) n ⌝ }
+    ensures { λ x. ⌜ (x ≡ partSum p (energyRow (now (energy .entry))) n) × (x ≤ 51200000000000) ⌝ }
+{
+    // A pool of 0 needs no pass.
+    if p.amount == 0 {
+        return 0;
+    }
+    let mut sum: u64 = 0;
+    let mut i = 0;
+    while i < n {
+        let g = gather(energy, n, i, p);
+        sum += share_of(p, g.own);
+        i = g.end;
+    }
+    sum
 }
