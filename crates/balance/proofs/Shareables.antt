@@ -25,7 +25,7 @@ use Rattle.balance.proofs.Energy.{entryBy, Counted, constraint-energy, 
 
 -- ---- what is small of a residual pool is so of either of its sides, whichever the kind
 
-credit-low : (x : Residual) (kind : Kind) → SmallResidual x → creditBy kind x ≤ 50000000000
+pub credit-low : (x : Residual) (kind : Kind) → SmallResidual x → creditBy kind x ≤ 50000000000
 unfolding creditBy
 credit-low x Contingency s = omega arith
 credit-low x Fpp s = s .credit
@@ -33,7 +33,7 @@ credit-low x Used s = omega arith
 credit-low x Unused s = omega arith
 credit-low x Payment s = omega arith
 
-charge-low : (x : Residual) (kind : Kind) → SmallResidual x → chargeBy kind x ≤ 50000000000
+pub charge-low : (x : Residual) (kind : Kind) → SmallResidual x → chargeBy kind x ≤ 50000000000
 unfolding chargeBy
 charge-low x Contingency s = omega arith
 charge-low x Fpp s = s .charge
