@@ -60,9 +60,9 @@ closes-by B p c {n} {d} e w =
 
 -- ---- a factor with a sign lies above 0 or below, and not both
 
-pub record OneSided (B : Book) : Type 0 where
-  pub units : (u : ℕ) → (B .unit u .plus ≡ 0) ⊎ (B .unit u .minus ≡ 0)
-  pub constraints : (j : ℕ) → (B .constraint j .plus ≡ 0) ⊎ (B .constraint j .minus ≡ 0)
+record OneSided (B : Book) : Type 0 where
+  units : (u : ℕ) → (B .unit u .plus ≡ 0) ⊎ (B .unit u .minus ≡ 0)
+  constraints : (j : ℕ) → (B .constraint j .plus ≡ 0) ⊎ (B .constraint j .minus ≡ 0)
 
 one-side : (w : ℕ) → (plusOf w ≡ 0) ⊎ (minusOf w ≡ 0)
 unfolding plusOf minusOf
