@@ -29,7 +29,7 @@ signed-requires : tie.Need-signed-requires
 signed-requires c κs = omega (arith, constraint-rule (c .before .before .before .before .pre .1 .0) _ (c .before .before .before .before .pre .1 .1 .0) .cost)
 
 net-requires : tie.Need-net-requires
-net-requires c κs = search needs
+net-requires c κs = (omega arith, omega (arith, c .before .over-regions .ensures .small, constraint-rule (c .before .before .before .before .before .pre .1 .0) _ (c .before .before .before .before .before .pre .1 .1 .0) .cost))
 
 returns : tie.Need-returns
 returns c = contingency-is _ _ (c .before .before .before .before .before .before .pre .1 .1 .1) _ (toZ-ofZ (sfits-of (c .before .signed .ok)) ∙ c .before .signed .ensures) (c .before .before .over-regions .ensures) (toZ-ofZ (sfits-of (c .net .ok)) ∙ c .net .ensures)
