@@ -4,19 +4,16 @@ use ground::read;
 use ground::sign;
 use libc::STDIN_FILENO;
 use libc::STDOUT_FILENO;
+use statement::Heading;
+use statement::Line;
 use statement::Written;
-ghost use Prim.Native.Nat.{_+_, _≤_};
+ghost use Prim.Native.Nat.{_≤_};
 ghost use lib.ListN.{length};
 
 // A number, after the text that leads to it.
 fn show(text: &[u8], n: u64) {
     io::write_all(STDOUT_FILENO, text);
     io::print_decimal(STDOUT_FILENO, n);
-}
-
-// A number of one byte, after the text that leads to it.
-fn show_byte(text: &[u8], n: u8) {
-    show(text, n as u64);
 }
 
 // An amount in dollars, digit by digit behind the point, so that all four places stand there. Zero is not below zero and has no minus.
@@ -32,39 +29,34 @@ fn show_dollars(amount: i64) {
     io::print_decimal(STDOUT_FILENO, size % 10);
 }
 
-// The line that stands at a place of the statement: id, part, regions, unit, dollars.
-fn show_line(statement: &[u8], at: usize)
-    requires { ⌜ at + 24 ≤ length (now statement) ⌝ }
-{
-    io::print_decimal(STDOUT_FILENO, read::u32_at(statement, at) as u64);
-    show_byte(b" ", statement[at + 4]);
-    show_byte(b" ", statement[at + 5]);
-    show(b" ", read::u32_at(statement, at + 8) as u64);
+// A line: id, part, regions, unit, dollars.
+fn show_line(l: Line) {
+    io::print_decimal(STDOUT_FILENO, l.id as u64);
+    show(b" ", l.part as u64);
+    show(b" ", l.regions as u64);
+    show(b" ", l.unit as u64);
     io::write_all(STDOUT_FILENO, b" ");
-    show_dollars(read::i64_at(statement, at + 16));
+    show_dollars(l.amount);
     io::write_all(STDOUT_FILENO, b"\n");
 }
 
 // The lines of a statement of `n` bytes: all that stands behind its header.
 fn show_lines(statement: &[u8], n: usize)
-    requires { ⌜ 24 ≤ n ⌝ }
     requires { ⌜ n ≤ length (now statement) ⌝ }
 {
-    let mut at = 24;
-    while n - at >= 24 {
-        show_line(statement, at);
-        at += 24;
+    let mut i = 0;
+    while i * 24 + 48 <= n {
+        show_line(reading::line_at(statement, i));
+        i += 1;
     }
 }
 
-fn show_header(statement: &[u8])
-    requires { ⌜ 24 ≤ length (now statement) ⌝ }
-{
-    show(b"account ", read::u32_at(statement, 16) as u64);
-    show(b" date ", read::u32_at(statement, 8) as u64);
-    show(b" interval ", read::u16_at(statement, 6) as u64);
-    show(b" run ", read::u16_at(statement, 12) as u64);
-    show(b" lines ", read::u16_at(statement, 14) as u64);
+fn show_header(h: Heading) {
+    show(b"account ", h.account as u64);
+    show(b" date ", h.date as u64);
+    show(b" interval ", h.interval as u64);
+    show(b" run ", h.run as u64);
+    show(b" lines ", h.lines as u64);
     io::write_all(STDOUT_FILENO, b"\n");
 }
 
@@ -77,7 +69,7 @@ fn show_statement(buffer: &[u8], n: usize) {
     if n > buffer.len() {
         return;
     }
-    show_header(buffer);
+    show_header(reading::heading_at(buffer));
     show_lines(buffer, n);
 }
 

@@ -1,28 +1,33 @@
--- `listing::show_lines` is safe and ends. The invariant: the next line's place is within the statement. The measure is what is left of it.
--- Assumes nothing.
-use Prim.Native.Nat.{_≤_, _-_}
-use borrow.Author.Needs.{needs}
+-- `listing::show_lines` is safe and ends. The invariant: the lines so far lie within the statement. The measure is what is left of it. Assumes nothing.
+use Prim.Native.Nat.{_*_, _≤_, _-_}
 use native.Mathlib.Omega.{arith}
+use borrow.Author.Needs.{needs}
 use Rattle.listing.proofs.show_lines.Statement.{statement}
 use Rattle.listing.proofs.show_lines.Tie as tie
 
 abbrev Inv-loop : tie.InvT-loop
-Inv-loop statement n at₀ at = at ≤ n
+Inv-loop statement n i₀ i = i * 24 ≤ n
 
 abbrev μ-loop : tie.MeasureT-loop
-μ-loop statement n at₀ at = n - at
+μ-loop statement n i₀ i = n - i * 24
 
 loop-holds : tie.Need-loop-holds Inv-loop μ-loop
 loop-holds c = omega arith
 
-sub-loop : tie.Need-sub-loop Inv-loop μ-loop
-sub-loop c = omega arith
+mul-loop : tie.Need-mul-loop Inv-loop μ-loop
+mul-loop c = omega arith
+
+add-loop : tie.Need-add-loop Inv-loop μ-loop
+add-loop c = search needs
+
+line-at-requires : tie.Need-line-at-requires Inv-loop μ-loop
+line-at-requires c κs = omega arith
 
 show-line-requires : tie.Need-show-line-requires Inv-loop μ-loop
-show-line-requires c κs = omega arith
+show-line-requires c κs = search needs
 
-add-at : tie.Need-add-at Inv-loop μ-loop
-add-at c = omega arith
+add-i : tie.Need-add-i Inv-loop μ-loop
+add-i c = omega arith
 
 loop-less : tie.Need-loop-less Inv-loop μ-loop
 loop-less c = omega arith
@@ -40,9 +45,11 @@ show-lines-spec =
     Inv-loop
     μ-loop
     loop-holds
-    sub-loop
+    mul-loop
+    add-loop
+    line-at-requires
     show-line-requires
-    add-at
+    add-i
     loop-less
     loop-again
     returns)
