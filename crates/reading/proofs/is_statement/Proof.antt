@@ -1,4 +1,5 @@
 -- `reading::is_statement` meets its contract. Each end is a law of `Whole`. Assumes nothing.
+use native.Mathlib.Omega.{arith}
 use borrow.Author.Needs.{needs}
 use Rattle.reading.proofs.Whole.{too-short, not-headed, lines-decide, lines-lie}
 use Rattle.reading.proofs.is_statement.Statement.{statement}
@@ -20,7 +21,8 @@ cast-lines-hold : tie.Need-cast-lines-hold
 cast-lines-hold c = search needs
 
 lines-hold-requires : tie.Need-lines-hold-requires
-lines-hold-requires c κs = lines-lie _ (search needs) (c .before .before .before .is-headed .ensures) _ (c .before .before .if2 .left) (c .before .heading-at .ensures)
+lines-hold-requires c κs =
+    omega (arith, lines-lie _ (search needs) (c .before .before .before .is-headed .ensures) _ (c .before .before .if2 .left) (c .before .heading-at .ensures))
 
 returns-3 : tie.Need-returns-3
 returns-3 c = lines-decide _ (search needs) (c .before .before .before .before .is-headed .ensures) _ (c .before .before .before .if2 .left) (c .before .before .heading-at .ensures) (c .lines-hold .ensures)
