@@ -7,7 +7,7 @@ use records::rows::Constraint;
 use records::rows::UnitRow;
 
 // A constraint of mode 0 has one pool, one of mode 1 three (FPP, used, unused), one of mode 2 the unused alone; a contract has one.
-pub enum Kind {
+pub(crate) enum Kind {
     Contingency,
     Fpp,
     Used,

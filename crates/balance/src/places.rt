@@ -10,7 +10,7 @@ use records::rows;
 use records::rows::Constraint;
 
 // A pool of a constraint, a contract's pool, or a number past the end.
-pub enum Place {
+pub(crate) enum Place {
     Constraint(usize, Kind),
     Contract(usize),
     Past,

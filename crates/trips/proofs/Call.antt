@@ -32,7 +32,7 @@ use Rattle.lines.specs.Emitted.{anyOver}
 use Rattle.settlement.specs.Settle.{linesOf, statementOf, settled, ifAccepted, outcome}
 use Rattle.settlement.specs.Walks.{Owned}
 use Rattle.settlement.proofs.Ends.{owned-of}
-use Rattle.trips.specs.Due.{Narrow}
+use Rattle.trips.proofs.Due.{Narrow}
 
 -- ---- a call that gives bytes passed every check
 

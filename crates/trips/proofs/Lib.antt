@@ -1,3 +1,4 @@
+pub mod Due
 pub mod Lines
 pub mod Lists
 pub mod Call

@@ -23,7 +23,7 @@ use Rattle.amounts.proofs.Signed.{factor-below, charge-shared}
 use Rattle.statement.specs.declared.Line.{Line}
 use Rattle.reading.specs.Reading.{regionsOk, unitOk, amountOk}
 use Rattle.lines.specs.Lines.{sharedLine, contingencyLine, fppLine, usedLine, unusedLine, fppRest, usedRest, unusedRest, aceLine, asoeLine}
-use Rattle.trips.specs.Due.{Due}
+use Rattle.trips.proofs.Due.{Due}
 
 -- ---- regions
 

@@ -29,7 +29,7 @@ use Rattle.lines.specs.Lines.{unitLines, restLines}
 use Rattle.lines.specs.Emitted.{passesLimit, anyOver}
 use Rattle.settlement.specs.Settle.{regionLines}
 use Rattle.settlement.specs.Walks.{ownLines, unitLinesAt, conLines, conLinesAt, contractLinesAt, bookLines}
-use Rattle.trips.specs.Due.{Due, Narrow}
+use Rattle.trips.proofs.Due.{Due, Narrow}
 use Rattle.trips.proofs.Lines.{contingency-due, fpp-rest-due, used-rest-due, unused-rest-due, fpp-due, used-due, unused-due, ace-due, asoe-due}
 
 -- ---- a constraint

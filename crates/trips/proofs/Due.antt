@@ -1,4 +1,4 @@
--- What the round trip's proof says of a book's lines before check 12 has judged their amounts.
+-- What is said of a book's lines before check 12 has judged their amounts. Assumes nothing.
 use Prim.Native.Nat.{ℕ, _<_, _^_}
 use mathlib.Core.Path.{_≡_}
 use mathlib.Core.Bool.{false}
