@@ -19,6 +19,16 @@ pub(crate) struct Written {
     pub(crate) length: u64,
 }
 
+/// `fervolatro_pool` of `include/fervolatro.h`.
+#[repr(C)]
+pub(crate) struct Pool {
+    pub(crate) refusal: u64,
+    pub(crate) place: u64,
+    pub(crate) amount: i64,
+    pub(crate) lines: u64,
+    pub(crate) sum: i64,
+}
+
 /// `fervolatro_heading` of `include/fervolatro.h`.
 #[repr(C)]
 pub(crate) struct Heading {
@@ -45,7 +55,7 @@ pub(crate) struct Entry {
 
 #[cfg(target_arch = "x86_64")]
 mod linked {
-    use super::{Entry, Heading, Verdict, Written};
+    use super::{Entry, Heading, Pool, Verdict, Written};
 
     extern "C" {
         fn fervolatro_check(book: *const u8, book_len: usize) -> Verdict;
@@ -57,6 +67,8 @@ mod linked {
             buffer: *mut u8,
             buffer_len: usize,
         ) -> Written;
+
+        fn fervolatro_balance(book: *const u8, book_len: usize, pool: u64) -> Pool;
 
         fn fervolatro_header(statement: *const u8, statement_len: usize) -> Heading;
 
@@ -90,6 +102,11 @@ mod linked {
         }
     }
 
+    pub(crate) fn balance(book: &[u8], pool: u64) -> Pool {
+        // SAFETY: as for a check.
+        unsafe { fervolatro_balance(book.as_ptr(), book.len(), pool) }
+    }
+
     pub(crate) fn header(statement: &[u8]) -> Heading {
         // SAFETY: as for a check.
         unsafe { fervolatro_header(statement.as_ptr(), statement.len()) }
@@ -115,7 +132,7 @@ mod linked {
 
 #[cfg(not(target_arch = "x86_64"))]
 mod bridged {
-    use super::{Entry, Heading, Verdict, Written};
+    use super::{Entry, Heading, Pool, Verdict, Written};
     use std::cell::RefCell;
     use std::env;
     use std::io::{Read, Write};
@@ -232,6 +249,20 @@ mod bridged {
         ask_to_write(request, buffer)
     }
 
+    pub(crate) fn balance(book: &[u8], pool: u64) -> Pool {
+        let mut request = request(b'b', book);
+        request.extend_from_slice(&pool.to_le_bytes());
+        let [refusal, place, amount, lines, sum] = ask(&request);
+        Pool {
+            refusal,
+            place,
+            // The bits are those of the signed numbers.
+            amount: amount.cast_signed(),
+            lines,
+            sum: sum.cast_signed(),
+        }
+    }
+
     pub(crate) fn header(statement: &[u8]) -> Heading {
         let [refusal, place, account, date, interval, run, lines] = ask(&request(b'h', statement));
         Heading {
@@ -267,6 +298,6 @@ mod bridged {
 }
 
 #[cfg(not(target_arch = "x86_64"))]
-pub(crate) use bridged::{check, header, line, rewrite, statement};
+pub(crate) use bridged::{balance, check, header, line, rewrite, statement};
 #[cfg(target_arch = "x86_64")]
-pub(crate) use linked::{check, header, line, rewrite, statement};
+pub(crate) use linked::{balance, check, header, line, rewrite, statement};

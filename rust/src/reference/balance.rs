@@ -1,0 +1,139 @@
+//! The balance of a pool, over the statements of all accounts: refusals 1 to 10
+//! and 15.
+
+use std::collections::BTreeSet;
+
+use super::amounts::Settled;
+use super::check;
+use super::statement::{unit_part, Settlement};
+use crate::book::{Book, Constraint, Contract};
+use crate::statement::Line;
+use crate::{Balance, Refusal};
+
+/// "Numbers 1 to 10 come from every call on a book. ... A balance [then looks] for
+/// 15": "pool or line number past the end".
+pub fn balance(bytes: &[u8], pool: u64) -> Result<Balance, Refusal> {
+    let balances = balances(bytes)?;
+    let index = usize::try_from(pool).ok();
+    let balance = index.and_then(|index| balances.get(index));
+    balance.copied().ok_or(Refusal {
+        number: 15,
+        place: 0,
+    })
+}
+
+/// The balances of all pools, by their numbers.
+pub fn balances(bytes: &[u8]) -> Result<Vec<Balance>, Refusal> {
+    check(bytes)?;
+    let book = Book::decode(bytes);
+    let lines = lines_of_all(&book);
+    let balance = |pool: &Pool| pool.balance(&lines);
+    Ok(pools(&book).iter().map(balance).collect())
+}
+
+/// The lines of "all accounts (each that 11 lets pass)": those that a unit row or an
+/// energy row names, each once.
+fn lines_of_all(book: &Book) -> Vec<Line> {
+    let units = book.units.iter().map(|row| row.account);
+    let energies = book.energies.iter().map(|row| row.account);
+    let accounts: BTreeSet<u32> = units.chain(energies).collect();
+    let statements = accounts.iter().map(|&account| {
+        let settlement = Settlement::of(book, account);
+        settlement.statement()
+    });
+    statements.flat_map(|statement| statement.lines).collect()
+}
+
+/// A pool of a book: what is to be recovered, and which lines are to do it.
+#[derive(Clone, Copy, Debug)]
+pub struct Pool {
+    pub amount: i64,
+    /// Of the constraint or the contract.
+    pub id: u32,
+    /// What parts the lines are.
+    pub parts: [u8; 2],
+    /// How many halves of a unit of money amount plus sum may have beyond one half
+    /// per line.
+    pub more_halves: u64,
+}
+
+/// "Pools are numbered from 0 in book order: one for a mode 0 constraint, three for
+/// mode 1 (FPP, used, unused), one for mode 2, one for a contract."
+pub fn pools(book: &Book) -> Vec<Pool> {
+    let constraints = book.constraints.iter().flat_map(|of| match of.mode {
+        0 => vec![Pool::contingency(of)],
+        _ => regulation_pools(of),
+    });
+    let contracts = book.contracts.iter().map(Pool::contract);
+    constraints.chain(contracts).collect()
+}
+
+fn regulation_pools(constraint: &Constraint) -> Vec<Pool> {
+    let settled = Settled::by_mode(constraint.mode).iter();
+    settled
+        .map(|&what| Pool::regulation(constraint, what))
+        .collect()
+}
+
+impl Pool {
+    /// "Parts: 1 contingency by ACE, 2 by ASOE."
+    fn contingency(constraint: &Constraint) -> Self {
+        Pool {
+            amount: constraint.cost,
+            id: constraint.id,
+            parts: [1, 2],
+            more_halves: 0,
+        }
+    }
+
+    /// "The amount to recover (0 for FPP)." "Unit lines 3 FPP, 4 used, 5 unused;
+    /// residual lines 6 FPP, 7 used, 8 unused." "One half more for a regulation or
+    /// FPP pool."
+    fn regulation(constraint: &Constraint, what: Settled) -> Self {
+        let amount = match what {
+            Settled::Fpp => 0,
+            Settled::Used | Settled::Unused => what.pool(constraint),
+        };
+        Pool {
+            amount: i64::try_from(amount).expect("a part of a cost fits 64 bits"),
+            id: constraint.id,
+            parts: [unit_part(what), unit_part(what) + 3],
+            more_halves: 1,
+        }
+    }
+
+    /// "9 contract by ACE, 10 by ASOE." "One half more per benefiting region for a
+    /// contract."
+    fn contract(contract: &Contract) -> Self {
+        let benefiting = contract.factors.iter().filter(|&&factor| factor > 0);
+        Pool {
+            amount: contract.payment,
+            id: contract.id,
+            parts: [9, 10],
+            more_halves: benefiting.count() as u64,
+        }
+    }
+
+    /// The balance with these lines, among which are those of other pools. "It
+    /// answers the amount to recover ..., how many lines all accounts ... have in
+    /// that pool, and their sum."
+    pub fn balance(&self, lines: &[Line]) -> Balance {
+        let own = || {
+            let lines = lines.iter();
+            lines.filter(|line| line.id == self.id && self.parts.contains(&line.part))
+        };
+        Balance {
+            amount: self.amount,
+            lines: own().count() as u64,
+            sum: own().map(|line| line.amount).sum(),
+        }
+    }
+
+    /// "Amount plus sum is at most half a unit of money per line, and one half more
+    /// for a regulation or FPP pool, or one half more per benefiting region for a
+    /// contract, in size."
+    pub fn closes(&self, balance: &Balance) -> bool {
+        let left_over = balance.amount + balance.sum;
+        2 * left_over.unsigned_abs() <= balance.lines + self.more_halves
+    }
+}
