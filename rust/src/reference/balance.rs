@@ -4,31 +4,44 @@
 use std::collections::BTreeSet;
 
 use super::amounts::Settled;
-use super::check;
 use super::statement::{unit_part, Settlement};
+use super::{check, refuse_unless};
 use crate::book::{Book, Constraint, Contract};
 use crate::statement::Line;
 use crate::{Balance, Refusal};
 
-/// "Numbers 1 to 10 come from every call on a book. ... A balance [then looks] for
-/// 15": "pool or line number past the end".
+/// "Numbers 1 to 10 come from every call on a book."
 pub fn balance(bytes: &[u8], pool: u64) -> Result<Balance, Refusal> {
-    let balances = balances(bytes)?;
-    let index = usize::try_from(pool).ok();
-    let balance = index.and_then(|index| balances.get(index));
-    balance.copied().ok_or(Refusal {
-        number: 15,
-        place: 0,
-    })
+    balances(bytes)?.of(pool)
 }
 
-/// The balances of all pools, by their numbers.
-pub fn balances(bytes: &[u8]) -> Result<Vec<Balance>, Refusal> {
+/// The balances of all pools of an accepted book, by their numbers.
+pub fn balances(bytes: &[u8]) -> Result<Balances, Refusal> {
     check(bytes)?;
     let book = Book::decode(bytes);
     let lines = lines_of_all(&book);
-    let balance = |pool: &Pool| pool.balance(&lines);
-    Ok(pools(&book).iter().map(balance).collect())
+    let by_number = pools(&book)
+        .iter()
+        .map(|pool| pool.balance(&lines))
+        .collect();
+    Ok(Balances { by_number })
+}
+
+pub struct Balances {
+    by_number: Vec<Balance>,
+}
+
+impl Balances {
+    pub fn count(&self) -> u64 {
+        self.by_number.len() as u64
+    }
+
+    /// A balance then looks for 15: "pool or line number past the end".
+    pub fn of(&self, pool: u64) -> Result<Balance, Refusal> {
+        refuse_unless(15, pool < self.count())?;
+        let index = usize::try_from(pool).expect("it is below the count");
+        Ok(self.by_number[index])
+    }
 }
 
 /// The lines of "all accounts (each that 11 lets pass)": those that a unit row or an
