@@ -2,7 +2,8 @@
 //! through the bridge (`tests/bridge`) where it does not. The bridge is started
 //! by `tests/x86 run target/outer/bridge`; where the environment variable
 //! FERVOLATRO_BRIDGE is set, the program that it names is started instead, with
-//! no arguments.
+//! no arguments. With the feature `native` the library is linked on any machine, as
+//! `tests/native` compiles it there.
 
 /// `fervolatro_verdict` of `include/fervolatro.h`.
 #[repr(C)]
@@ -53,7 +54,7 @@ pub(crate) struct Entry {
     pub(crate) amount: i64,
 }
 
-#[cfg(target_arch = "x86_64")]
+#[cfg(any(target_arch = "x86_64", feature = "native"))]
 mod linked {
     use super::{Entry, Heading, Pool, Verdict, Written};
 
@@ -130,7 +131,7 @@ mod linked {
     }
 }
 
-#[cfg(not(target_arch = "x86_64"))]
+#[cfg(not(any(target_arch = "x86_64", feature = "native")))]
 mod bridged {
     use super::{Entry, Heading, Pool, Verdict, Written};
     use std::cell::RefCell;
@@ -297,7 +298,7 @@ mod bridged {
     }
 }
 
-#[cfg(not(target_arch = "x86_64"))]
+#[cfg(not(any(target_arch = "x86_64", feature = "native")))]
 pub(crate) use bridged::{balance, check, header, line, rewrite, statement};
-#[cfg(target_arch = "x86_64")]
+#[cfg(any(target_arch = "x86_64", feature = "native"))]
 pub(crate) use linked::{balance, check, header, line, rewrite, statement};
