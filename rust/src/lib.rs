@@ -11,6 +11,7 @@ use std::error::Error;
 use std::fmt;
 
 pub mod book;
+pub mod fast;
 pub mod field;
 mod library;
 pub mod reference;
