@@ -12,7 +12,7 @@ use crate::Refusal;
 const SHORTEST: usize = 84;
 const ENERGY_LIMIT: u32 = 20_000_000;
 const MONEY_LIMIT: u64 = 50_000_000_000;
-const WHOLE: i64 = 1_000_000;
+const WHOLE: u64 = 1_000_000;
 
 pub fn check(book: &[u8]) -> Result<(), Refusal> {
     checked(book, |_, _| {}).map(|_| ())
@@ -164,7 +164,8 @@ fn constraints(sections: &Sections, totals: &Totals, first: &mut Faults) -> Resu
 
 fn constraint_keeps_rules(record: &[u8; 40]) -> bool {
     let [service, regions, mode] = [record[4], record[5], record[6]];
-    let [price, rcr, usage] = [16, 20, 24].map(|at| u32_at(record, at));
+    let (price, rcr) = (u32_at(record, 16), u32_at(record, 20));
+    let usage = u32_at(record, 24);
     let (rcf, drcf) = (u32_at(record, 28), size_at(record, 32));
     let factored = price | rcr | usage | rcf;
     let regulation = service.wrapping_sub(9) < 2;
@@ -201,114 +202,125 @@ fn units(
     first: &mut Faults,
 ) -> Result<(), Refusal> {
     let start = sections.units_at();
-    let mut walk = Walk::new(sections.constraints);
+    let mut walk = Walk {
+        constraints: sections.constraints,
+        index: 0,
+    };
+    let mut current = walk.current();
+    let mut sums = Sums::default();
     let mut before = 0;
     for (index, record) in sections.units.iter().enumerate() {
         let place = start + 20 * index;
-        let [constraint, unit, account] = [0, 4, 8].map(|at| u32_at(record, at));
-        let (cf, dcf) = (i32_at(record, 12), i32_at(record, 16));
+        let (constraint, unit) = (u32_at(record, 0), u32_at(record, 4));
+        let account = u32_at(record, 8);
+        let (cf, default) = (i32_at(record, 12), size_at(record, 16));
         let holds = (constraint != 0)
             & (unit != 0)
             & (account != 0)
-            & ((cf as u32).wrapping_add(1_000_000) <= 2_000_000)
-            & (size_at(record, 16) <= 1_000_000);
+            & (cf.wrapping_add(1_000_000) as u32 <= 2_000_000)
+            & (default <= 1_000_000);
         refuse_unless(holds, 5, place)?;
         let key = pair(record);
         if key <= before {
             note(&mut first.order, place);
         }
         before = key;
-        if constraint != walk.id && !walk.go_to(constraint, first) {
-            note(&mut first.name, place);
+        if constraint != current.id {
+            current = walk.go_to(constraint, sums, first);
+            sums = Sums::default();
+            if constraint != current.id {
+                note(&mut first.name, place);
+            }
         }
-        walk.add(cf.into(), dcf.into());
-        on_unit(account, walk.mode);
+        sums.add(cf, default);
+        on_unit(account, current.mode);
     }
-    walk.go_to_end(first);
+    walk.go_to_end(sums, first);
     Ok(())
 }
 
-/// Goes through the constraints beside the unit rows, and adds up the factors of
-/// those that name the current one.
+/// The factors of the unit rows of a constraint: sizes of CFs above and below 0, and
+/// of DCFs.
+#[derive(Clone, Copy, Default)]
+struct Sums {
+    above: u64,
+    below: u64,
+    default: u64,
+}
+
+impl Sums {
+    #[inline(always)]
+    fn add(&mut self, cf: i32, default: u32) {
+        self.above += u64::from(cf.max(0).unsigned_abs());
+        self.below += u64::from(cf.min(0).unsigned_abs());
+        self.default += u64::from(default);
+    }
+
+    fn hold(self, constraint: &[u8; 40]) -> bool {
+        let mode = constraint[6];
+        if mode == 0 {
+            return true;
+        }
+        let factors_hold = match mode {
+            1 => {
+                let mut all = self;
+                all.add(i32_at(constraint, 28), 0);
+                (all.above == WHOLE) & (all.below == WHOLE)
+            }
+            _ => self.above | self.below == 0,
+        };
+        factors_hold & (self.default + u64::from(size_at(constraint, 32)) == WHOLE)
+    }
+}
+
+/// A constraint that rows may name. Without one, the id is 0, which no row has.
+struct Current {
+    id: u32,
+    mode: u8,
+}
+
+/// Goes through the constraints beside the unit rows.
 struct Walk<'b> {
     constraints: &'b [[u8; 40]],
     index: usize,
-    /// Of the current constraint; 0, which no row has, if rows may not name it or
-    /// there is none.
-    id: u32,
-    mode: u8,
-    above: i64,
-    below: i64,
-    default: i64,
 }
 
-impl<'b> Walk<'b> {
-    fn new(constraints: &'b [[u8; 40]]) -> Self {
-        let mut walk = Walk {
-            constraints,
-            index: 0,
-            id: 0,
-            mode: 0,
-            above: 0,
-            below: 0,
-            default: 0,
-        };
-        walk.open();
-        walk
-    }
-
-    #[inline(always)]
-    fn add(&mut self, cf: i64, dcf: i64) {
-        self.above += cf.max(0);
-        self.below += cf.min(0);
-        self.default += dcf;
-    }
-
-    /// Makes the constraint at the index the current one.
-    fn open(&mut self) {
-        (self.above, self.below, self.default) = (0, 0, 0);
-        (self.id, self.mode) = match self.constraints.get(self.index) {
+impl Walk<'_> {
+    fn current(&self) -> Current {
+        let (id, mode) = match self.constraints.get(self.index) {
             Some(record) if record[6] != 0 => (u32_at(record, 0), record[6]),
             _ => (0, 0),
         };
+        Current { id, mode }
     }
 
-    /// Whether the current constraint's factor sums hold.
-    fn sums_hold(&self, record: &[u8; 40]) -> bool {
-        let (rcf, drcf) = (i64::from(i32_at(record, 28)), i64::from(i32_at(record, 32)));
-        let factors_hold = match record[6] {
-            0 => return true,
-            1 => (self.above + self.below + rcf == 0) & (self.below + rcf.min(0) == -WHOLE),
-            _ => (self.above == 0) & (self.below == 0),
-        };
-        factors_hold & (self.default + drcf == -WHOLE)
-    }
-
-    /// Goes on to the first constraint whose id is not below this one; tells whether
-    /// it has it, and rows may name it.
-    fn go_to(&mut self, id: u32, first: &mut Faults) -> bool {
+    /// Goes on to the first constraint whose id is not below this one. The sums are
+    /// those of the current one; any other that is passed has no rows.
+    #[inline(never)]
+    fn go_to(&mut self, id: u32, mut sums: Sums, first: &mut Faults) -> Current {
         while let Some(record) = self.constraints.get(self.index) {
             if u32_at(record, 0) >= id {
                 break;
             }
-            self.close(record, first);
+            self.pass(record, sums, first);
+            sums = Sums::default();
         }
-        self.id == id
+        self.current()
     }
 
-    fn go_to_end(&mut self, first: &mut Faults) {
+    fn go_to_end(&mut self, mut sums: Sums, first: &mut Faults) {
         while let Some(record) = self.constraints.get(self.index) {
-            self.close(record, first);
+            self.pass(record, sums, first);
+            sums = Sums::default();
         }
     }
 
-    /// Judges the current constraint, and goes on to the next.
-    fn close(&mut self, record: &[u8; 40], first: &mut Faults) {
-        if !self.sums_hold(record) {
+    /// Judges the current constraint by the sums of its rows.
+    fn pass(&mut self, record: &[u8; 40], sums: Sums, first: &mut Faults) {
+        if !sums.hold(record) {
             note(&mut first.factors, CONSTRAINTS_AT + 40 * self.index);
         }
         self.index += 1;
-        self.open();
     }
 }
 
@@ -374,5 +386,11 @@ fn contracts(sections: &Sections, totals: &Totals, first: &mut Faults) -> Result
 /// The benefit factors of a contract.
 #[inline(always)]
 pub(super) fn factors(record: &[u8; 36]) -> [u32; 5] {
-    [16, 20, 24, 28, 32].map(|at| u32_at(record, at))
+    [
+        u32_at(record, 16),
+        u32_at(record, 20),
+        u32_at(record, 24),
+        u32_at(record, 28),
+        u32_at(record, 32),
+    ]
 }

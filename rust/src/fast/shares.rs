@@ -38,8 +38,8 @@ impl Pools {
     #[inline(always)]
     pub fn of(constraint: &[u8; 40]) -> Self {
         let cost = u64_at(constraint, 8);
-        let [price, rcr, usage] = [16, 20, 24].map(|at| u32_at(constraint, at));
-        let used = by_factor(cost, usage);
+        let (price, rcr) = (u32_at(constraint, 16), u32_at(constraint, 20));
+        let used = by_factor(cost, u32_at(constraint, 24));
         Pools {
             fpp: share(price.into(), rcr.into(), 120),
             used,
