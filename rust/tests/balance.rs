@@ -7,7 +7,7 @@
 use std::fmt::Write as _;
 
 use fervolatro::book::Book;
-use fervolatro::reference::{self, Pool};
+use fervolatro::reference::{self, Kind, Pool};
 use fervolatro::statement::{Line, Statement};
 use fervolatro::testing::accounts::{named, share_units, some_account, spread, Holding};
 use fervolatro::testing::damage::turn_bit;
@@ -77,19 +77,10 @@ const FAMILIES: [Family; 9] = [
     ("turned bits", turned_bits),
 ];
 
-/// The kinds of pool, and the first part of their lines.
-const KINDS: [(&str, u8); 5] = [
-    ("contingency", 1),
-    ("FPP", 3),
-    ("used", 4),
-    ("unused", 5),
-    ("contract", 9),
-];
-
 /// What was seen of pools: how many of each kind, and what they left over.
 #[derive(Default)]
 struct Seen {
-    kinds: [u64; KINDS.len()],
+    kinds: [u64; Kind::ALL.len()],
     nothing_left: u64,
     some_left: u64,
     as_much_as_may_be: u64,
@@ -97,8 +88,7 @@ struct Seen {
 
 impl Seen {
     fn count(&mut self, pool: &Pool, balance: &Balance) {
-        let kind = KINDS.iter().position(|&(_, part)| part == pool.parts[0]);
-        self.kinds[kind.expect("every pool has a kind")] += 1;
+        self.kinds[pool.kind as usize] += 1;
         let halves = 2 * (balance.amount + balance.sum).unsigned_abs();
         self.nothing_left += u64::from(halves == 0);
         self.some_left += u64::from(halves != 0);
@@ -106,8 +96,8 @@ impl Seen {
     }
 
     fn assert_all_seen(&self) {
-        for ((kind, _), &seen) in KINDS.iter().zip(&self.kinds) {
-            assert!(seen > 0, "no pool was {kind}");
+        for (kind, &seen) in Kind::ALL.iter().zip(&self.kinds) {
+            assert!(seen > 0, "no pool was {kind:?}");
         }
         assert!(self.nothing_left > 0, "something was always left over");
         assert!(self.some_left > 0, "nothing was ever left over");
@@ -116,7 +106,8 @@ impl Seen {
 
     fn report(&self) -> String {
         let mut report = String::new();
-        for ((kind, _), seen) in KINDS.iter().zip(&self.kinds) {
+        for (kind, seen) in Kind::ALL.iter().zip(&self.kinds) {
+            let kind = format!("{kind:?}");
             writeln!(report, "pool of {kind:11}: {seen:7}").expect("a string takes it");
         }
         let left_over = [

@@ -15,18 +15,10 @@ use std::hint::black_box;
 
 use books::Asked;
 use fervolatro::book::Book;
+use fervolatro::reference::Kind;
 use fervolatro::testing::generate::Sizes;
 use fervolatro::{fast, reference};
 use timing::{side_by_side, Times};
-
-/// The kinds of pool, and the first part of their lines.
-const KINDS: [(&str, u8); 5] = [
-    ("contingency", 1),
-    ("FPP", 3),
-    ("used", 4),
-    ("unused", 5),
-    ("contract", 9),
-];
 
 /// In bytes.
 const LONGEST_STATEMENT: usize = 51_672;
@@ -87,10 +79,10 @@ fn balances(asked: &Asked) {
     let book = &asked.bytes[..];
     let pools = reference::pools(&Book::decode(book));
     let lines = |pool: &u64| fast::balance(book, *pool).map_or(0, |balance| balance.lines);
-    for (kind, part) in KINDS {
-        let of_kind = (0..).zip(&pools).filter(|(_, pool)| pool.parts[0] == part);
+    for kind in Kind::ALL {
+        let of_kind = (0..).zip(&pools).filter(|(_, pool)| pool.kind == kind);
         if let Some(pool) = of_kind.map(|(number, _)| number).max_by_key(lines) {
-            let call = format!("balance, {kind}");
+            let call = format!("balance, {kind:?}");
             println!("{}", balance(asked, pool).row(&call, asked));
         }
     }

@@ -4,7 +4,7 @@
 use std::collections::BTreeSet;
 
 use super::amounts::Settled;
-use super::statement::{unit_part, Settlement};
+use super::statement::Settlement;
 use super::{check, refuse_unless};
 use crate::book::{Book, Constraint, Contract};
 use crate::statement::Line;
@@ -57,14 +57,45 @@ fn lines_of_all(book: &Book) -> Vec<Line> {
     statements.flat_map(|statement| statement.lines).collect()
 }
 
-/// A pool of a book: what is to be recovered, and which lines are to do it.
+/// What a pool is.
+#[derive(Clone, Copy, Debug, PartialEq, Eq)]
+pub enum Kind {
+    Contingency,
+    Fpp,
+    Used,
+    Unused,
+    Contract,
+}
+
+impl Kind {
+    pub const ALL: [Kind; 5] = [
+        Kind::Contingency,
+        Kind::Fpp,
+        Kind::Used,
+        Kind::Unused,
+        Kind::Contract,
+    ];
+
+    /// "Parts: 1 contingency by ACE, 2 by ASOE; unit lines 3 FPP, 4 used, 5 unused;
+    /// residual lines 6 FPP, 7 used, 8 unused; 9 contract by ACE, 10 by ASOE."
+    fn parts(self) -> [u8; 2] {
+        match self {
+            Kind::Contingency => [1, 2],
+            Kind::Fpp => [3, 6],
+            Kind::Used => [4, 7],
+            Kind::Unused => [5, 8],
+            Kind::Contract => [9, 10],
+        }
+    }
+}
+
+/// A pool of a book: what is to be recovered, and whose lines are to do it.
 #[derive(Clone, Copy, Debug)]
 pub struct Pool {
-    pub amount: i64,
+    pub kind: Kind,
     /// Of the constraint or the contract.
     pub id: u32,
-    /// What parts the lines are.
-    pub parts: [u8; 2],
+    pub amount: i64,
     /// How many halves of a unit of money amount plus sum may have beyond one half
     /// per line.
     pub more_halves: u64,
@@ -89,40 +120,38 @@ fn regulation_pools(constraint: &Constraint) -> Vec<Pool> {
 }
 
 impl Pool {
-    /// "Parts: 1 contingency by ACE, 2 by ASOE."
     fn contingency(constraint: &Constraint) -> Self {
         Pool {
-            amount: constraint.cost,
+            kind: Kind::Contingency,
             id: constraint.id,
-            parts: [1, 2],
+            amount: constraint.cost,
             more_halves: 0,
         }
     }
 
-    /// "The amount to recover (0 for FPP)." "Unit lines 3 FPP, 4 used, 5 unused;
-    /// residual lines 6 FPP, 7 used, 8 unused." "One half more for a regulation or
-    /// FPP pool."
+    /// "The amount to recover (0 for FPP)." "One half more for a regulation or FPP
+    /// pool."
     fn regulation(constraint: &Constraint, what: Settled) -> Self {
-        let amount = match what {
-            Settled::Fpp => 0,
-            Settled::Used | Settled::Unused => what.pool(constraint),
+        let (kind, amount) = match what {
+            Settled::Fpp => (Kind::Fpp, 0),
+            Settled::Used => (Kind::Used, what.pool(constraint)),
+            Settled::Unused => (Kind::Unused, what.pool(constraint)),
         };
         Pool {
-            amount: i64::try_from(amount).expect("a part of a cost fits 64 bits"),
+            kind,
             id: constraint.id,
-            parts: [unit_part(what), unit_part(what) + 3],
+            amount: i64::try_from(amount).expect("a part of a cost fits 64 bits"),
             more_halves: 1,
         }
     }
 
-    /// "9 contract by ACE, 10 by ASOE." "One half more per benefiting region for a
-    /// contract."
+    /// "One half more per benefiting region for a contract."
     fn contract(contract: &Contract) -> Self {
         let benefiting = contract.factors.iter().filter(|&&factor| factor > 0);
         Pool {
-            amount: contract.payment,
+            kind: Kind::Contract,
             id: contract.id,
-            parts: [9, 10],
+            amount: contract.payment,
             more_halves: benefiting.count() as u64,
         }
     }
@@ -131,9 +160,10 @@ impl Pool {
     /// answers the amount to recover ..., how many lines all accounts ... have in
     /// that pool, and their sum."
     pub fn balance(&self, lines: &[Line]) -> Balance {
+        let parts = self.kind.parts();
         let own = || {
             let lines = lines.iter();
-            lines.filter(|line| line.id == self.id && self.parts.contains(&line.part))
+            lines.filter(|line| line.id == self.id && parts.contains(&line.part))
         };
         Balance {
             amount: self.amount,

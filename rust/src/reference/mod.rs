@@ -10,7 +10,7 @@ mod reading;
 mod statement;
 
 pub use amounts::round;
-pub use balance::{balance, balances, pools, Balances, Pool};
+pub use balance::{balance, balances, pools, Balances, Kind, Pool};
 pub use check::check;
 pub use listing::{listed, listing};
 pub use reading::{header, line, read, rewrite};

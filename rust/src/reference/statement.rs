@@ -163,7 +163,7 @@ impl<'b> Settlement<'b> {
 
 /// "Unit lines 3 FPP, 4 used, 5 unused; residual lines 6 FPP, 7 used, 8 unused":
 /// a residual line's part is three more.
-pub(super) fn unit_part(settled: Settled) -> u8 {
+fn unit_part(settled: Settled) -> u8 {
     match settled {
         Settled::Fpp => 3,
         Settled::Used => 4,
