@@ -1,6 +1,6 @@
 /*
  * Fervolatro: the checks of a book of one five-minute trading interval, the
- * statement of one account, and statements read back.
+ * statement of one account, the balance of a pool, and statements read back.
  *
  * A call reads the bytes it is lent and writes at most the buffer it is lent:
  * it keeps nothing from one call to the next, and needs no preparation and no
@@ -103,6 +103,53 @@ typedef struct {
 fervolatro_written fervolatro_statement(const uint8_t *book, size_t book_len,
                                         uint32_t account, uint8_t *buffer,
                                         size_t buffer_len);
+
+/*
+ * The answer of fervolatro_balance.
+ *
+ * refusal  0 if the pool is there, else the number of the refusal, 1 to 10 or
+ *          15; then every field below is 0 but the place.
+ * place    where in the book the fault lies, in bytes from its start; 0 if the
+ *          pool is there, and for refusal 15.
+ * amount   what is to be recovered, in ten-thousandths of a dollar: the cost
+ *          of a constraint of mode 0 or 2, nothing for FPP, the used and the
+ *          unused part of the cost, the payment of a contract.
+ * lines    how many lines all accounts have in the pool.
+ * sum      what those lines add up to; what accounts must pay is negative.
+ */
+typedef struct {
+    uint64_t refusal;
+    uint64_t place;
+    int64_t amount;
+    uint64_t lines;
+    int64_t sum;
+} fervolatro_pool;
+
+/*
+ * Gives the balance of one pool: what is to be recovered, and what the lines of
+ * all accounts add up to. amount + sum is what rounding leaves over: in size at
+ * most half a unit of money per line, and one half more for a constraint of
+ * mode 1 or 2, or one half more per benefiting region for a contract.
+ *
+ *   No  Given exactly when                              Place
+ *    0  none of the rows below applies                  0
+ *    1  to 10, as fervolatro_check gives them
+ *   15  pool is not below the number of pools           0
+ *
+ * The lowest number that applies is given.
+ *
+ * Pools are numbered from 0 in book order: one for a constraint of mode 0,
+ * three for one of mode 1 (FPP, used, unused), one for one of mode 2, one for a
+ * contract. The accounts are those that a unit row or an energy row of the book
+ * names, each once.
+ *
+ * book      the first of book_len readable bytes. NULL is not allowed, as
+ *           above.
+ * book_len  how many bytes are lent.
+ * pool      any number.
+ */
+fervolatro_pool fervolatro_balance(const uint8_t *book, size_t book_len,
+                                   uint64_t pool);
 
 /*
  * The answer of fervolatro_header.

@@ -1,16 +1,17 @@
 //! Safe calls into the proved Fervolatro library, and what it is tested with.
 //!
-//! [`check`], [`statement()`], [`header`], [`line()`] and [`rewrite`] are the
-//! library's own answers. [`mod@reference`] is a second, independent statement of
-//! the same rules, written from the scope document (01) alone; [`book`] and
-//! [`mod@statement`] have the records and their bytes, [`testing`] what the tests
-//! build books and statements with. `cargo test` compares the two on some hundred
-//! thousand of each.
+//! [`check`], [`statement()`], [`balance`], [`header`], [`line()`] and [`rewrite`]
+//! are the library's own answers. [`mod@reference`] is a second, independent
+//! statement of the same rules, written from the scope document (01) alone;
+//! [`book`] and [`mod@statement`] have the records and their bytes, [`testing`]
+//! what the tests build books and statements with. `cargo test` compares the two
+//! on some hundred thousand of each.
 
 use std::error::Error;
 use std::fmt;
 
 pub mod book;
+pub mod fast;
 pub mod field;
 mod library;
 pub mod reference;
@@ -21,8 +22,8 @@ pub mod testing;
 #[derive(Clone, Copy, Debug, PartialEq, Eq)]
 pub struct Refusal {
     /// The number of the refusal as in the scope document's table: 1 to 10 from
-    /// every call on a book, 11 to 13 from writing its statement; 13 to 15 from a
-    /// call on a statement.
+    /// every call on a book, 11 to 13 from writing its statement, 15 from asking for
+    /// a balance; 13 to 15 from a call on a statement.
     pub number: u8,
     /// The offset of the record at fault, or 0 where the number has no record.
     pub place: usize,
@@ -35,6 +36,18 @@ impl fmt::Display for Refusal {
 }
 
 impl Error for Refusal {}
+
+/// The balance of a pool. Amount and sum, in ten-thousandths of a dollar, are each
+/// other's opposite but for what rounding leaves over.
+#[derive(Clone, Copy, Debug, Default, PartialEq, Eq)]
+pub struct Balance {
+    /// What is to be recovered; 0 for FPP.
+    pub amount: i64,
+    /// How many lines all accounts have in the pool.
+    pub lines: u64,
+    /// What those lines add up to; what accounts must pay is negative.
+    pub sum: i64,
+}
 
 /// What the header of a statement says.
 #[derive(Clone, Copy, Debug, Default, PartialEq, Eq)]
@@ -85,6 +98,23 @@ pub fn check(book: &[u8]) -> Result<(), Refusal> {
 pub fn statement(book: &[u8], account: u32, buffer: &mut [u8]) -> Result<usize, Refusal> {
     let written = library::statement(book, account, buffer);
     written.into_result(buffer.len())
+}
+
+/// Gives the balance of a pool, numbered from 0 in book order: one for a constraint
+/// of mode 0, three for one of mode 1 (FPP, used, unused), one for one of mode 2,
+/// one for a contract.
+///
+/// ```
+/// use fervolatro::testing::worked::worked_book;
+///
+/// let book = worked_book().encode();
+/// let fpp = fervolatro::balance(&book, 0).unwrap();
+/// assert_eq!((fpp.amount, fpp.lines, fpp.sum), (0, 7, 1));
+/// let refusal = fervolatro::balance(&book, 3).unwrap_err();
+/// assert_eq!(refusal.to_string(), "refused 15 at 0");
+/// ```
+pub fn balance(book: &[u8], pool: u64) -> Result<Balance, Refusal> {
+    library::balance(book, pool).into_result()
 }
 
 /// Reads the header of a statement: any bytes are either a statement or refused
@@ -160,6 +190,18 @@ impl library::Written {
         }
         assert_eq!(length, 0, "a refusal writes nothing");
         Err(refusal(self.refusal, self.place))
+    }
+}
+
+impl library::Pool {
+    /// The answer as a result. A balance has place 0, a refusal no balance.
+    fn into_result(self) -> Result<Balance, Refusal> {
+        let balance = Balance {
+            amount: self.amount,
+            lines: self.lines,
+            sum: self.sum,
+        };
+        read(self.refusal, self.place, balance)
     }
 }
 

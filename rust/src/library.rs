@@ -2,7 +2,8 @@
 //! through the bridge (`tests/bridge`) where it does not. The bridge is started
 //! by `tests/x86 run target/outer/bridge`; where the environment variable
 //! FERVOLATRO_BRIDGE is set, the program that it names is started instead, with
-//! no arguments.
+//! no arguments. With the feature `native` the library is linked on any machine, as
+//! `tests/native` compiles it there.
 
 /// `fervolatro_verdict` of `include/fervolatro.h`.
 #[repr(C)]
@@ -17,6 +18,16 @@ pub(crate) struct Written {
     pub(crate) refusal: u64,
     pub(crate) place: u64,
     pub(crate) length: u64,
+}
+
+/// `fervolatro_pool` of `include/fervolatro.h`.
+#[repr(C)]
+pub(crate) struct Pool {
+    pub(crate) refusal: u64,
+    pub(crate) place: u64,
+    pub(crate) amount: i64,
+    pub(crate) lines: u64,
+    pub(crate) sum: i64,
 }
 
 /// `fervolatro_heading` of `include/fervolatro.h`.
@@ -43,9 +54,9 @@ pub(crate) struct Entry {
     pub(crate) amount: i64,
 }
 
-#[cfg(target_arch = "x86_64")]
+#[cfg(any(target_arch = "x86_64", feature = "native"))]
 mod linked {
-    use super::{Entry, Heading, Verdict, Written};
+    use super::{Entry, Heading, Pool, Verdict, Written};
 
     extern "C" {
         fn fervolatro_check(book: *const u8, book_len: usize) -> Verdict;
@@ -57,6 +68,8 @@ mod linked {
             buffer: *mut u8,
             buffer_len: usize,
         ) -> Written;
+
+        fn fervolatro_balance(book: *const u8, book_len: usize, pool: u64) -> Pool;
 
         fn fervolatro_header(statement: *const u8, statement_len: usize) -> Heading;
 
@@ -90,6 +103,11 @@ mod linked {
         }
     }
 
+    pub(crate) fn balance(book: &[u8], pool: u64) -> Pool {
+        // SAFETY: as for a check.
+        unsafe { fervolatro_balance(book.as_ptr(), book.len(), pool) }
+    }
+
     pub(crate) fn header(statement: &[u8]) -> Heading {
         // SAFETY: as for a check.
         unsafe { fervolatro_header(statement.as_ptr(), statement.len()) }
@@ -113,9 +131,9 @@ mod linked {
     }
 }
 
-#[cfg(not(target_arch = "x86_64"))]
+#[cfg(not(any(target_arch = "x86_64", feature = "native")))]
 mod bridged {
-    use super::{Entry, Heading, Verdict, Written};
+    use super::{Entry, Heading, Pool, Verdict, Written};
     use std::cell::RefCell;
     use std::env;
     use std::io::{Read, Write};
@@ -232,6 +250,20 @@ mod bridged {
         ask_to_write(request, buffer)
     }
 
+    pub(crate) fn balance(book: &[u8], pool: u64) -> Pool {
+        let mut request = request(b'b', book);
+        request.extend_from_slice(&pool.to_le_bytes());
+        let [refusal, place, amount, lines, sum] = ask(&request);
+        Pool {
+            refusal,
+            place,
+            // The bits are those of the signed numbers.
+            amount: amount.cast_signed(),
+            lines,
+            sum: sum.cast_signed(),
+        }
+    }
+
     pub(crate) fn header(statement: &[u8]) -> Heading {
         let [refusal, place, account, date, interval, run, lines] = ask(&request(b'h', statement));
         Heading {
@@ -266,7 +298,7 @@ mod bridged {
     }
 }
 
-#[cfg(not(target_arch = "x86_64"))]
-pub(crate) use bridged::{check, header, line, rewrite, statement};
-#[cfg(target_arch = "x86_64")]
-pub(crate) use linked::{check, header, line, rewrite, statement};
+#[cfg(not(any(target_arch = "x86_64", feature = "native")))]
+pub(crate) use bridged::{balance, check, header, line, rewrite, statement};
+#[cfg(any(target_arch = "x86_64", feature = "native"))]
+pub(crate) use linked::{balance, check, header, line, rewrite, statement};

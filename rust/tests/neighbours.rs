@@ -16,14 +16,6 @@ use fervolatro::{reference, Refusal};
 
 const FEWEST_PAIRS: u64 = 20_000;
 
-/// Books in which a region has several rows, and a constraint several units.
-const MEDIUM: Sizes = Sizes {
-    constraints: 4,
-    units: 16,
-    energies: 30,
-    contracts: 2,
-};
-
 #[test]
 fn statements_do_not_show_neighbours() {
     let seed = report::seed();
@@ -37,7 +29,7 @@ fn statements_do_not_show_neighbours() {
     };
     for (pairs, most) in [
         (14_000, Sizes::SMALL),
-        (10_000, MEDIUM),
+        (10_000, Sizes::MEDIUM),
         (300, Sizes::LARGEST),
     ] {
         for _ in 0..pairs {

@@ -15,7 +15,9 @@ use fervolatro::book::Book;
 use fervolatro::testing::accounts::{named, share_units, some_account, spread, Holding};
 use fervolatro::testing::damage::turn_bit;
 use fervolatro::testing::faults::{self, Spot};
-use fervolatro::testing::generate::{accepted_book, book_of_longest_statement, Sizes};
+use fervolatro::testing::generate::{
+    accepted_book, book_of_longest_statement, set_amounts_to_ends, Sizes,
+};
 use fervolatro::testing::halves::{self, book_of_halves};
 use fervolatro::testing::lent::Lent;
 use fervolatro::testing::random::Random;
@@ -210,29 +212,11 @@ fn halves(run: &mut Run) {
     }
 }
 
-/// Costs, payments, prices, responses and usage at the ends of their ranges.
 fn ends(run: &mut Run) {
-    const MONEY: [i64; 5] = [0, 1, 25_000_000_001, 49_999_999_999, 50_000_000_000];
-    const PRICED: [(u32, u32); 4] = [
-        (2_500_000, 2_400_000),
-        (600_000, 10_000_000),
-        (1, 60),
-        (1, 59),
-    ];
     for _ in 0..1_500 {
         let mut book = run.accepted(Sizes::SMALL);
-        let random = &mut run.random;
-        for constraint in &mut book.constraints {
-            constraint.cost = *random.pick(&MONEY);
-            if constraint.mode == 1 {
-                (constraint.price, constraint.rcr) = *random.pick(&PRICED);
-                constraint.usage = *random.pick(&[0, 1, 500_000, 999_999, 1_000_000]);
-            }
-        }
-        for contract in &mut book.contracts {
-            contract.payment = *random.pick(&MONEY);
-        }
-        let account = some_account(random, &book);
+        set_amounts_to_ends(&mut run.random, &mut book);
+        let account = some_account(&mut run.random, &book);
         run.compare_account(&book, &book.encode(), account);
     }
 }

@@ -8,9 +8,11 @@
 //! pool and each line to a ten-thousandth of a dollar. Where that shows in the
 //! last place, it is said.
 
-use fervolatro::book::{Book, Constraint, Contract, EnergyRow, UnitRow};
+use fervolatro::book::{Book, Constraint, EnergyRow};
 use fervolatro::statement::Statement;
-use fervolatro::testing::worked::{empty_book, energy_row, unit_row, worked_book};
+use fervolatro::testing::worked::{
+    book_of, constraint, contract, energy_row, small_halves_book, unit_row, worked_book,
+};
 use fervolatro::{reference, Refusal};
 
 /// The bits of TAS1, and of NSW1, QLD1, SA1 and VIC1 together.
@@ -42,39 +44,6 @@ fn total(book: &Book, account: u32, id: u32, parts: &[u8]) -> i64 {
         .filter(|line| line.id == id && parts.contains(&line.part))
         .map(|line| line.amount)
         .sum()
-}
-
-fn constraint(id: u32, service: u8, mode: u8, regions: u8, cost: i64) -> Constraint {
-    Constraint {
-        id,
-        service,
-        mode,
-        regions,
-        cost,
-        ..Constraint::default()
-    }
-}
-
-fn contract(id: u32, kind: u8, payment: i64, factors: [u32; 5]) -> Contract {
-    Contract {
-        id,
-        kind,
-        payment,
-        factors,
-        ..Contract::default()
-    }
-}
-
-/// A book of these records, its entries made from the energy rows.
-fn book_of(constraints: &[Constraint], units: &[UnitRow], energies: &[EnergyRow]) -> Book {
-    let mut book = Book {
-        constraints: constraints.to_vec(),
-        units: units.to_vec(),
-        energies: energies.to_vec(),
-        ..empty_book()
-    };
-    book.total_regions();
-    book
 }
 
 // 01's worked interval.
@@ -181,45 +150,6 @@ fn units_alone_and_energy_alone() {
 
 // Amounts that end in a half.
 
-/// Accounts 7 and 9 each have one kWh of two, of every kind in NSW1, and of ACE and
-/// ASOE in QLD1.
-fn book_of_halves() -> Book {
-    let mut book = book_of(
-        &[
-            constraint(1, 2, 0, 1, 1),
-            constraint(2, 7, 0, 1, 3),
-            Constraint {
-                drcf: -500_000,
-                ..constraint(3, 10, 2, 1, 5)
-            },
-            Constraint {
-                price: 60,
-                rcr: 1,
-                usage: 500_000,
-                rcf: 500_000,
-                drcf: -500_000,
-                ..constraint(4, 9, 1, 1, 5)
-            },
-        ],
-        &[
-            unit_row(3, 1, 7, 0, -500_000),
-            unit_row(4, 1, 7, 500_000, -500_000),
-            unit_row(4, 2, 9, -1_000_000, 0),
-        ],
-        &[
-            energy_row(7, 0, [-1, 1, -1, 1]),
-            energy_row(7, 1, [-1, 1, 0, 0]),
-            energy_row(9, 0, [-1, 1, -1, 1]),
-            energy_row(9, 1, [-1, 1, 0, 0]),
-        ],
-    );
-    book.contracts = vec![
-        contract(1, 1, 5, [1_000_000, 0, 0, 0, 0]),
-        contract(2, 1, 3, [500_000, 500_000, 0, 0, 0]),
-    ];
-    book
-}
-
 #[test]
 fn halves_by_hand() {
     let lines = [
@@ -251,7 +181,7 @@ fn halves_by_hand() {
         "2 9 2 0 -0.0001",
         "2 10 2 0 -0.0001",
     ];
-    assert_lines(&book_of_halves(), 7, &lines);
+    assert_lines(&small_halves_book(), 7, &lines);
 }
 
 #[test]
@@ -274,7 +204,7 @@ fn halves_by_hand_for_the_other_account() {
         "2 9 2 0 -0.0001",
         "2 10 2 0 -0.0001",
     ];
-    assert_lines(&book_of_halves(), 9, &lines);
+    assert_lines(&small_halves_book(), 9, &lines);
 }
 
 // 000, appendix A.

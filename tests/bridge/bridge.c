@@ -6,6 +6,7 @@
  *   'c', the book: the answer is fervolatro_verdict, field by field;
  *   's', the book, a u32 account, the buffer: the answer is fervolatro_written, field by field, and
  *        then the whole buffer as the call left it;
+ *   'b', the book, a u64 pool: the answer is fervolatro_pool, field by field;
  *   'h', the statement: the answer is fervolatro_heading, field by field;
  *   'l', the statement, a u64 index: the answer is fervolatro_entry, field by field;
  *   'r', the statement, the buffer: the answer is as for 's'.
@@ -122,6 +123,18 @@ static void write_statement(void)
                  &buffer);
 }
 
+static void balance(void)
+{
+    static slice book;
+    uint64_t number;
+    fervolatro_pool pool;
+
+    take_slice(&book);
+    take(&number, sizeof number);
+    pool = fervolatro_balance(book.bytes, book.len, number);
+    give(&pool, sizeof pool);
+}
+
 static void read_header(void)
 {
     static slice statement;
@@ -165,6 +178,9 @@ int main(void)
             break;
         case 's':
             write_statement();
+            break;
+        case 'b':
+            balance();
             break;
         case 'h':
             read_header();

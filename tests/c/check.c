@@ -108,31 +108,46 @@ static void expect_rewritten(const char *name, const uint8_t *statement,
                    refusal == 0 ? len : 0);
 }
 
-/* The answers about a header and about a line are alike in this: seven fields
- * of 64 bits, with nothing between them. */
-enum { FIELDS = 7 };
+/* The other answers are alike in this: fields of 64 bits, with nothing between
+ * them. */
+enum { HEADING_FIELDS = 7, ENTRY_FIELDS = 7, POOL_FIELDS = 5 };
 
-_Static_assert(sizeof(fervolatro_heading) == FIELDS * sizeof(uint64_t),
+_Static_assert(sizeof(fervolatro_heading) == HEADING_FIELDS * sizeof(uint64_t),
                "a heading has seven fields");
-_Static_assert(sizeof(fervolatro_entry) == FIELDS * sizeof(uint64_t),
+_Static_assert(sizeof(fervolatro_entry) == ENTRY_FIELDS * sizeof(uint64_t),
                "an entry has seven fields");
+_Static_assert(sizeof(fervolatro_pool) == POOL_FIELDS * sizeof(uint64_t),
+               "a pool has five fields");
 
-static void expect_fields(const char *name, const void *got,
+static uint64_t field(const void *answer, size_t at)
+{
+    uint64_t value;
+
+    memcpy(&value, (const uint8_t *)answer + at * sizeof value, sizeof value);
+    return value;
+}
+
+static void expect_fields(const char *name, size_t fields, const void *got,
                           const void *expected)
 {
-    uint64_t gots[FIELDS], expecteds[FIELDS];
     size_t at;
 
-    memcpy(gots, got, sizeof gots);
-    memcpy(expecteds, expected, sizeof expecteds);
-    for (at = 0; at < FIELDS; at++) {
-        if (gots[at] != expecteds[at]) {
+    for (at = 0; at < fields; at++) {
+        if (field(got, at) != field(expected, at)) {
             fprintf(stderr,
                     "%s: field %zu: expected %" PRIu64 ", got %" PRIu64 "\n",
-                    name, at, expecteds[at], gots[at]);
+                    name, at, field(expected, at), field(got, at));
             failures++;
         }
     }
+}
+
+static void expect_pool(const char *name, const uint8_t *book, size_t len,
+                        uint64_t pool, fervolatro_pool expected)
+{
+    fervolatro_pool got = fervolatro_balance(book, len, pool);
+
+    expect_fields(name, POOL_FIELDS, &got, &expected);
 }
 
 static void expect_heading(const char *name, const uint8_t *statement,
@@ -140,7 +155,7 @@ static void expect_heading(const char *name, const uint8_t *statement,
 {
     fervolatro_heading got = fervolatro_header(statement, len);
 
-    expect_fields(name, &got, &expected);
+    expect_fields(name, HEADING_FIELDS, &got, &expected);
 }
 
 static void expect_line(const char *name, const uint8_t *statement, size_t len,
@@ -148,7 +163,7 @@ static void expect_line(const char *name, const uint8_t *statement, size_t len,
 {
     fervolatro_entry got = fervolatro_line(statement, len, index);
 
-    expect_fields(name, &got, &expected);
+    expect_fields(name, ENTRY_FIELDS, &got, &expected);
 }
 
 /* The statement of account 7 in the worked book, its header and its first line:
@@ -197,8 +212,28 @@ static void read_back(const uint8_t *book)
                      14);
 }
 
+/* The pools of the worked book. Each has a line for each of the five units, and
+ * a residual line for each of the two accounts. What is to be recovered and the
+ * sum of the lines leave 1, 0 and 0. */
+static void balances(const uint8_t *book)
+{
+    static const fervolatro_pool fpp = {0, 0, 0, 7, 1};
+    static const fervolatro_pool used = {0, 0, 5584520, 7, -5584520};
+    static const fervolatro_pool unused = {0, 0, 8376780, 7, -8376780};
+    static const fervolatro_pool no_pool = {15, 0, 0, 0, 0};
+    static const fervolatro_pool no_book = {4, 0, 0, 0, 0};
+
+    expect_pool("FPP", book, WORKED_LEN, 0, fpp);
+    expect_pool("used", book, WORKED_LEN, 1, used);
+    expect_pool("unused", book, WORKED_LEN, 2, unused);
+    expect_pool("pool 3", book, WORKED_LEN, 3, no_pool);
+    expect_pool("pool 2^64 - 1", book, WORKED_LEN, UINT64_MAX, no_pool);
+    expect_pool("pool 3, one byte short", book, WORKED_LEN - 1, 3, no_book);
+}
+
 int main(int argc, char **argv)
 {
+    static const fervolatro_pool no_usage = {5, 84, 0, 0, 0};
     uint8_t book[WORKED_LEN + 1] = {0};
 
     if (argc != 2) {
@@ -220,10 +255,12 @@ int main(int argc, char **argv)
     expect_statement("room one short", book, 7, STATEMENT_LEN - 1, 13, FRONT, 0);
     expect_statement("account 8", book, 8, STATEMENT_LEN, 11, FRONT, 0);
     read_back(book);
+    balances(book);
 
     /* Usage 400,000 is 0x00061A80; with a high byte of 1 it passes 1,000,000. */
     book[USAGE_AT + 3] = 1;
     expect("usage past its range", book, WORKED_LEN, 5, 84);
+    expect_pool("a pool of a refused book", book, WORKED_LEN, 0, no_usage);
 
     return failures == 0 ? EXIT_SUCCESS : EXIT_FAILURE;
 }

@@ -73,6 +73,16 @@ pub enum Settled {
 }
 
 impl Settled {
+    /// What a constraint of the mode settles: "three for mode 1 (FPP, used, unused),
+    /// one for mode 2", in which the cost is all unused.
+    pub fn by_mode(mode: u8) -> &'static [Settled] {
+        match mode {
+            0 => &[],
+            1 => &[Settled::Fpp, Settled::Used, Settled::Unused],
+            _ => &[Settled::Unused],
+        }
+    }
+
     /// "Used = round(cost x usage / 1,000,000); unused = cost - used. Mode 2: all
     /// unused. FPP pool = round(price x RCR / 120)."
     pub fn pool(self, constraint: &Constraint) -> i128 {

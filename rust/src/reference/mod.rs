@@ -3,12 +3,14 @@
 //! over it. It is written to be compared with 01 by eye, not for speed.
 
 mod amounts;
+mod balance;
 mod check;
 mod listing;
 mod reading;
 mod statement;
 
 pub use amounts::round;
+pub use balance::{balance, balances, pools, Balances, Kind, Pool};
 pub use check::check;
 pub use listing::{listed, listing};
 pub use reading::{header, line, read, rewrite};

@@ -46,7 +46,7 @@ fn is_named(book: &Book, account: u32) -> bool {
 
 /// An accepted book seen by one account: its energies and those of all accounts,
 /// by region.
-struct Settlement<'b> {
+pub(super) struct Settlement<'b> {
     book: &'b Book,
     account: u32,
     own: [Energy; 5],
@@ -54,7 +54,7 @@ struct Settlement<'b> {
 }
 
 impl<'b> Settlement<'b> {
-    fn of(book: &'b Book, account: u32) -> Self {
+    pub(super) fn of(book: &'b Book, account: u32) -> Self {
         let own_in = |region: usize| {
             let rows = book.energies.iter();
             let own =
@@ -72,7 +72,7 @@ impl<'b> Settlement<'b> {
     /// "Header, 24 bytes: RCS; reserved byte; 16-bit version 1; interval, date and
     /// run as in the book; line count u16; account u32; reserved u32." "Constraints
     /// in book order ... Then contracts."
-    fn statement(&self) -> Statement {
+    pub(super) fn statement(&self) -> Statement {
         let constraints = self.book.constraints.iter();
         let contracts = self.book.contracts.iter();
         let lines: Vec<Line> = constraints
@@ -95,11 +95,10 @@ impl<'b> Settlement<'b> {
     /// "For mode 0 one line, 1 or 2; else own units in row order (3, 4, 5; mode 2
     /// only 5), then 6, 7, 8 (mode 2 only 8)."
     fn constraint_lines(&self, constraint: &Constraint) -> Vec<Line> {
-        let settled: &[Settled] = match constraint.mode {
-            0 => return vec![self.contingency_line(constraint)],
-            1 => &[Settled::Fpp, Settled::Used, Settled::Unused],
-            _ => &[Settled::Unused],
-        };
+        if constraint.mode == 0 {
+            return vec![self.contingency_line(constraint)];
+        }
+        let settled = Settled::by_mode(constraint.mode);
         let mut lines = Vec::new();
         for row in self.own_units(constraint) {
             for what in settled {

@@ -31,6 +31,14 @@ impl Sizes {
         contracts: 16,
     };
 
+    /// A book in which a region has several rows, and a constraint several units.
+    pub const MEDIUM: Sizes = Sizes {
+        constraints: 4,
+        units: 16,
+        energies: 30,
+        contracts: 2,
+    };
+
     /// A book of a few hundred bytes.
     pub const SMALL: Sizes = Sizes {
         constraints: 4,
@@ -118,6 +126,27 @@ pub fn book_of_longest_statement(random: &mut Random) -> (Book, u32) {
         book.contracts.push(contract);
     }
     (book, 7)
+}
+
+/// Sets costs, payments, prices, responses and usage to the ends of their ranges.
+pub fn set_amounts_to_ends(random: &mut Random, book: &mut Book) {
+    const MONEY: [i64; 5] = [0, 1, 25_000_000_001, 49_999_999_999, MONEY_LIMIT];
+    const PRICED: [(u32, u32); 4] = [
+        (2_500_000, 2_400_000),
+        (600_000, 10_000_000),
+        (1, 60),
+        (1, 59),
+    ];
+    for constraint in &mut book.constraints {
+        constraint.cost = *random.pick(&MONEY);
+        if constraint.mode == 1 {
+            (constraint.price, constraint.rcr) = *random.pick(&PRICED);
+            constraint.usage = *random.pick(&[0, 1, 500_000, 999_999, 1_000_000]);
+        }
+    }
+    for contract in &mut book.contracts {
+        contract.payment = *random.pick(&MONEY);
+    }
 }
 
 /// Every month has 28 days; the other dates have tests of their own.

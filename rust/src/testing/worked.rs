@@ -1,6 +1,7 @@
-//! The worked interval of the scope document, field by field.
+//! The worked interval of the scope document, field by field, and what other books
+//! are written down with.
 
-use crate::book::{Book, Constraint, EnergyRow, Header, UnitRow};
+use crate::book::{Book, Constraint, Contract, EnergyRow, Header, UnitRow};
 use crate::statement::{self, Line, Statement};
 
 /// A book without records: 84 bytes, accepted.
@@ -125,4 +126,78 @@ pub fn energy_row(account: u32, region: u8, energies: [i32; 4]) -> EnergyRow {
         residual_asoe,
         ..EnergyRow::default()
     }
+}
+
+/// A constraint: id, service, mode, regions, cost.
+pub fn constraint(id: u32, service: u8, mode: u8, regions: u8, cost: i64) -> Constraint {
+    Constraint {
+        id,
+        service,
+        mode,
+        regions,
+        cost,
+        ..Constraint::default()
+    }
+}
+
+/// A contract: id, kind, payment, benefit factors.
+pub fn contract(id: u32, kind: u8, payment: i64, factors: [u32; 5]) -> Contract {
+    Contract {
+        id,
+        kind,
+        payment,
+        factors,
+        ..Contract::default()
+    }
+}
+
+/// A book of these records, its entries made from the energy rows.
+pub fn book_of(constraints: &[Constraint], units: &[UnitRow], energies: &[EnergyRow]) -> Book {
+    let mut book = Book {
+        constraints: constraints.to_vec(),
+        units: units.to_vec(),
+        energies: energies.to_vec(),
+        ..empty_book()
+    };
+    book.total_regions();
+    book
+}
+
+/// A book of small amounts that end in a half. Accounts 7 and 9 each have one kWh of
+/// two, of every kind in NSW1, and of ACE and ASOE in QLD1.
+pub fn small_halves_book() -> Book {
+    let mut book = book_of(
+        &[
+            constraint(1, 2, 0, 1, 1),
+            constraint(2, 7, 0, 1, 3),
+            Constraint {
+                drcf: -500_000,
+                ..constraint(3, 10, 2, 1, 5)
+            },
+            Constraint {
+                price: 60,
+                rcr: 1,
+                usage: 500_000,
+                rcf: 500_000,
+                drcf: -500_000,
+                ..constraint(4, 9, 1, 1, 5)
+            },
+        ],
+        &[
+            unit_row(3, 1, 7, 0, -500_000),
+            unit_row(4, 1, 7, 500_000, -500_000),
+            unit_row(4, 2, 9, -1_000_000, 0),
+        ],
+        &[
+            energy_row(7, 0, [-1, 1, -1, 1]),
+            energy_row(7, 1, [-1, 1, 0, 0]),
+            energy_row(9, 0, [-1, 1, -1, 1]),
+            energy_row(9, 1, [-1, 1, 0, 0]),
+        ],
+    );
+    book.contracts = vec![
+        contract(1, 1, 5, [1_000_000, 0, 0, 0, 0]),
+        contract(2, 1, 3, [500_000, 500_000, 0, 0, 0]),
+    ];
+    book
 }

@@ -1,0 +1,124 @@
+//! Times the library beside the fast Rust version (`src/fast`), in one run and on the
+//! same books, and sees how much stack the library's calls use.
+//!
+//!     tests/native                  (only where the machine is not x86-64)
+//!     cd rust && cargo run --release --offline --features native --example benchmark
+//!
+//! A time is the least of many rounds, which are made of both by turns: what else
+//! the machine does can only add to it.
+
+mod books;
+mod stack;
+mod timing;
+
+use std::hint::black_box;
+
+use books::Asked;
+use fervolatro::book::Book;
+use fervolatro::reference::Kind;
+use fervolatro::testing::generate::Sizes;
+use fervolatro::{fast, reference};
+use timing::{side_by_side, Times};
+
+/// In bytes.
+const LONGEST_STATEMENT: usize = 51_672;
+
+fn main() {
+    let books = books::all();
+    println!("{}", Times::HEADING);
+    for asked in &books {
+        println!("{}", check(asked).row("check", asked));
+    }
+    for asked in &books {
+        println!("{}", statement(asked).row("statement", asked));
+    }
+    for asked in &books {
+        balances(asked);
+    }
+    growth();
+    stack::print(&books);
+}
+
+fn check(asked: &Asked) -> Times {
+    let book = &asked.bytes[..];
+    side_by_side(
+        || fervolatro::check(black_box(book)).is_ok(),
+        || fast::check(black_box(book)).is_ok(),
+    )
+}
+
+fn statement(asked: &Asked) -> Times {
+    let (book, account) = (&asked.bytes[..], asked.account);
+    let mut theirs = vec![0; LONGEST_STATEMENT];
+    let mut ours = theirs.clone();
+    let times = side_by_side(
+        || fervolatro::statement(black_box(book), account, black_box(&mut theirs)).is_ok(),
+        || fast::statement(black_box(book), account, black_box(&mut ours)).is_ok(),
+    );
+    assert!(theirs == ours, "{}: they write differently", asked.name);
+    times
+}
+
+/// One pool.
+fn balance(asked: &Asked, pool: u64) -> Times {
+    let book = &asked.bytes[..];
+    assert_eq!(
+        fervolatro::balance(book, pool),
+        fast::balance(book, pool),
+        "{}, pool {pool}",
+        asked.name
+    );
+    side_by_side(
+        || fervolatro::balance(black_box(book), pool).is_ok(),
+        || fast::balance(black_box(book), pool).is_ok(),
+    )
+}
+
+/// The pool with the most lines of each kind, and what one takes on average over all.
+fn balances(asked: &Asked) {
+    let book = &asked.bytes[..];
+    let pools = reference::pools(&Book::decode(book));
+    let lines = |pool: &u64| fast::balance(book, *pool).map_or(0, |balance| balance.lines);
+    for kind in Kind::ALL {
+        let of_kind = (0..).zip(&pools).filter(|(_, pool)| pool.kind == kind);
+        if let Some(pool) = of_kind.map(|(number, _)| number).max_by_key(lines) {
+            let call = format!("balance, {kind:?}");
+            println!("{}", balance(asked, pool).row(&call, asked));
+        }
+    }
+    let numbers = 0..pools.len() as u64;
+    let of_all = side_by_side(
+        || {
+            let mut numbers = numbers.clone();
+            numbers.all(|pool| fervolatro::balance(black_box(book), pool).is_ok())
+        },
+        || {
+            let mut numbers = numbers.clone();
+            numbers.all(|pool| fast::balance(black_box(book), pool).is_ok())
+        },
+    );
+    let each = of_all.divided_by(pools.len());
+    println!("{}", each.row("balance, average", asked));
+}
+
+/// How the times grow with the energy rows and with the unit rows, all else as large
+/// as may be.
+fn growth() {
+    println!("\ngrowth with the rows\n{}", Times::HEADING);
+    let parts = [0, 1, 2, 4, 8];
+    let largest = Sizes::LARGEST;
+    let by_energies = parts.map(|eighths| Sizes {
+        energies: (largest.energies * eighths / 8).max(1),
+        ..largest
+    });
+    let by_units = parts.map(|eighths| Sizes {
+        units: largest.units * eighths / 8,
+        ..largest
+    });
+    for sizes in by_energies.into_iter().chain(by_units) {
+        let asked = books::of(sizes);
+        println!("{}", check(&asked).row("check", &asked));
+        println!("{}", statement(&asked).row("statement", &asked));
+        println!("{}", balance(&asked, 0).row("balance 0", &asked));
+    }
+}

@@ -1,0 +1,248 @@
+//! The balance of a pool. What takes time beside the check is how many accounts there
+//! are, and a division for each.
+//!
+//! Energy rows stand in the order of their accounts, so those are counted where the
+//! account changes. Unit rows do not: their accounts go into a table on the stack,
+//! open-addressed, more than three times as large as there can be of them, while the
+//! check passes the rows; each account of energy rows is then looked up in it.
+
+use super::check::{checked, factors, totals, Totals};
+use super::layout::{i32_at, size_at, u32_at, u64_at, Sections};
+use super::shares::{halves, share, Pools};
+use super::statement::own_run;
+use crate::{Balance, Refusal};
+
+/// A book shorter than this has fewer than 128 unit rows.
+const SHORT: usize = 84 + 20 * 128;
+
+pub fn balance(book: &[u8], pool: u64) -> Result<Balance, Refusal> {
+    // Clearing the large table would take longer than all else in a short book.
+    if book.len() < SHORT {
+        balance_with(&mut Accounts::<256>::none(), book, pool)
+    } else {
+        balance_with(&mut Accounts::<2_048>::none(), book, pool)
+    }
+}
+
+fn balance_with<const SLOTS: usize>(
+    accounts: &mut Accounts<SLOTS>,
+    book: &[u8],
+    pool: u64,
+) -> Result<Balance, Refusal> {
+    let sections = checked(book, |account, _| accounts.insert(account))?;
+    let totals = totals(&sections);
+    match Pool::numbered(&sections, pool) {
+        Some(Pool::Contingency(record)) => Ok(contingency(&sections, &totals, accounts, record)),
+        Some(Pool::Regulation(record, what)) => {
+            Ok(regulation(&sections, &totals, accounts, record, what))
+        }
+        Some(Pool::Contract(record)) => Ok(contract(&sections, &totals, accounts, record)),
+        None => Err(Refusal {
+            number: 15,
+            place: 0,
+        }),
+    }
+}
+
+/// The accounts of unit rows, each once. A slot of 0 is free: no account is 0.
+struct Accounts<const SLOTS: usize> {
+    slots: [u32; SLOTS],
+    count: u64,
+}
+
+impl<const SLOTS: usize> Accounts<SLOTS> {
+    fn none() -> Self {
+        Accounts {
+            slots: [0; SLOTS],
+            count: 0,
+        }
+    }
+
+    /// The slot that has the account, or the free one where it belongs.
+    #[inline(always)]
+    fn slot(&self, account: u32) -> usize {
+        let mixed = account.wrapping_mul(0x9e37_79b1);
+        let mut slot = (mixed >> (32 - SLOTS.trailing_zeros())) as usize;
+        loop {
+            let found = self.slots[slot % SLOTS];
+            if found == account || found == 0 {
+                return slot % SLOTS;
+            }
+            slot += 1;
+        }
+    }
+
+    #[inline(always)]
+    fn insert(&mut self, account: u32) {
+        let slot = self.slot(account);
+        self.count += u64::from(self.slots[slot] == 0);
+        self.slots[slot] = account;
+    }
+
+    #[inline(always)]
+    fn has(&self, account: u32) -> bool {
+        self.slots[self.slot(account)] != 0
+    }
+
+    /// How many accounts there are, of energy rows and of unit rows. On the way
+    /// `on_row` is shown each energy row, and `on_end` told when an account's rows
+    /// were shown.
+    #[inline(always)]
+    fn with_energies(
+        &self,
+        rows: &[[u8; 24]],
+        mut on_row: impl FnMut(&[u8; 24]),
+        mut on_end: impl FnMut(),
+    ) -> u64 {
+        let mut count = self.count;
+        for (index, row) in rows.iter().enumerate() {
+            let account = u32_at(row, 0);
+            on_row(row);
+            let is_last = rows
+                .get(index + 1)
+                .is_none_or(|next| u32_at(next, 0) != account);
+            if is_last {
+                on_end();
+                count += u64::from(!self.has(account));
+            }
+        }
+        count
+    }
+}
+
+/// A pool, and which of its constraint's it is: 0 FPP, 1 used, 2 unused.
+enum Pool<'b> {
+    Contingency(&'b [u8; 40]),
+    Regulation(&'b [u8; 40], usize),
+    Contract(&'b [u8; 36]),
+}
+
+impl<'b> Pool<'b> {
+    fn numbered(sections: &Sections<'b>, number: u64) -> Option<Self> {
+        let mut left = number;
+        for record in sections.constraints {
+            let (pools, first) = match record[6] {
+                0 if left == 0 => return Some(Pool::Contingency(record)),
+                1 => (3, 0),
+                _ => (1, 2),
+            };
+            if left < pools {
+                return Some(Pool::Regulation(record, first + left as usize));
+            }
+            left -= pools;
+        }
+        let contract = sections.contracts.get(usize::try_from(left).ok()?)?;
+        Some(Pool::Contract(contract))
+    }
+}
+
+/// The total of a kind over the regions of a mask.
+fn total_over(totals: &Totals, regions: u8, kind: usize) -> u64 {
+    let set = (0..5).filter(|region| regions >> region & 1 == 1);
+    set.map(|region| u64::from(totals[region][kind])).sum()
+}
+
+/// What all accounts have of an amount, shared by energy over regions, and how many
+/// accounts there are.
+#[inline(always)]
+fn shared<const SLOTS: usize>(
+    sections: &Sections,
+    accounts: &Accounts<SLOTS>,
+    (amount, total, regions): (u64, u64, u8),
+    energy: impl Fn(&[u8; 24]) -> u32,
+) -> (i64, u64) {
+    let own = std::cell::Cell::new(0);
+    let mut sum = 0;
+    let count = accounts.with_energies(
+        sections.energies,
+        |row| {
+            if regions >> row[4] & 1 == 1 {
+                own.set(own.get() + u64::from(energy(row)));
+            }
+        },
+        || sum += share(amount, own.take(), total),
+    );
+    (sum as i64, count)
+}
+
+fn contingency<const SLOTS: usize>(
+    sections: &Sections,
+    totals: &Totals,
+    accounts: &Accounts<SLOTS>,
+    record: &[u8; 40],
+) -> Balance {
+    let [service, regions] = [record[4], record[5]];
+    let cost = u64_at(record, 8);
+    let kind = usize::from(service % 2);
+    let pool = (cost, total_over(totals, regions, kind), regions);
+    let (sum, lines) = match kind {
+        0 => shared(sections, accounts, pool, |row| size_at(row, 8)),
+        _ => shared(sections, accounts, pool, |row| u32_at(row, 12)),
+    };
+    Balance {
+        amount: cost as i64,
+        lines,
+        sum: -sum,
+    }
+}
+
+fn regulation<const SLOTS: usize>(
+    sections: &Sections,
+    totals: &Totals,
+    accounts: &Accounts<SLOTS>,
+    record: &[u8; 40],
+    what: usize,
+) -> Balance {
+    let regions = record[5];
+    let pools = Pools::of(record);
+    let residual = pools.residual(record)[what];
+    let pool = (
+        residual.unsigned_abs(),
+        total_over(totals, regions, 2),
+        regions,
+    );
+    let residual_of = |row: &[u8; 24]| size_at(row, 16) + u32_at(row, 20);
+    let (sum, count) = shared(sections, accounts, pool, residual_of);
+    let id = u32_at(record, 0);
+    let start = sections.units.partition_point(|row| u32_at(row, 0) < id);
+    let units = own_run(&mut &sections.units[start..], record);
+    let unit_lines = units
+        .iter()
+        .map(|row| pools.by_factors(i32_at(row, 12), size_at(row, 16))[what]);
+    Balance {
+        amount: [0, pools.used, pools.unused][what] as i64,
+        lines: units.len() as u64 + count,
+        sum: unit_lines.sum::<i64>() + residual.signum() * sum,
+    }
+}
+
+fn contract<const SLOTS: usize>(
+    sections: &Sections,
+    totals: &Totals,
+    accounts: &Accounts<SLOTS>,
+    record: &[u8; 36],
+) -> Balance {
+    let payment = u64_at(record, 8);
+    let factors = factors(record);
+    let halves = factors.map(|factor| halves(payment, factor));
+    let mut sum = 0;
+    let count = accounts.with_energies(
+        sections.energies,
+        |row| {
+            let region = usize::from(row[4]);
+            if factors[region] != 0 {
+                let [by_ace, by_asoe] = halves[region];
+                let [ace, asoe, _] = totals[region].map(u64::from);
+                sum += share(by_ace, size_at(row, 8).into(), ace);
+                sum += share(by_asoe, u32_at(row, 12).into(), asoe);
+            }
+        },
+        || {},
+    );
+    let benefiting = factors.iter().filter(|&&factor| factor != 0).count() as u64;
+    Balance {
+        amount: payment as i64,
+        lines: 2 * benefiting * count,
+        sum: -(sum as i64),
+    }
+}

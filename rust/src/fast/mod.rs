@@ -1,0 +1,14 @@
+//! The rules once more, written for speed: what the benchmark holds the library
+//! against. Nothing is allocated, and no section is passed more than twice.
+//!
+//! It is no second reference: `tests/fast.rs` compares it with that one.
+
+mod balance;
+mod check;
+mod layout;
+mod shares;
+mod statement;
+
+pub use balance::balance;
+pub use check::check;
+pub use statement::statement;

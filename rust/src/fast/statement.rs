@@ -1,0 +1,216 @@
+//! The statement of an account. Unit rows are passed once by the check, which counts
+//! the account's on the way, and once to write; the account's energy rows, side by
+//! side in their order, are found by halves.
+
+use std::slice::IterMut;
+
+use super::check::{checked, factors, totals, Totals};
+use super::layout::{i32_at, size_at, u16_at, u32_at, u64_at, Sections};
+use super::shares::{halves, share, Pools};
+use crate::Refusal;
+
+/// 12 is not looked for: no line can pass the limit, as a share of a pool is at most
+/// the pool.
+pub fn statement(book: &[u8], account: u32, buffer: &mut [u8]) -> Result<usize, Refusal> {
+    let mut unit_lines = 0;
+    let sections = checked(book, |owner, mode| {
+        unit_lines += if owner == account {
+            lines_by_mode(mode)
+        } else {
+            0
+        };
+    })?;
+    let refused = |number| Err(Refusal { number, place: 0 });
+    let rows = own_energy_rows(sections.energies, account);
+    if unit_lines == 0 && rows.is_empty() {
+        return refused(11);
+    }
+    let lines = unit_lines + common_lines(&sections);
+    let Some((header, slots)) = buffer.get_mut(..24 + 24 * lines).and_then(halved) else {
+        return refused(13);
+    };
+    *header = header_of(&sections, account, lines);
+    Settling {
+        totals: totals(&sections),
+        own: own_energy(rows),
+        account,
+        slots: slots.iter_mut(),
+    }
+    .write(&sections);
+    Ok(24 + 24 * lines)
+}
+
+/// The header and the lines of a statement.
+fn halved(statement: &mut [u8]) -> Option<(&mut [u8; 24], &mut [[u8; 24]])> {
+    let (header, lines) = statement.split_first_chunk_mut()?;
+    Some((header, lines.as_chunks_mut().0))
+}
+
+/// How many lines a unit has, and an account besides, by the mode of a constraint.
+#[inline(always)]
+fn lines_by_mode(mode: u8) -> usize {
+    if mode == 1 {
+        3
+    } else {
+        1
+    }
+}
+
+/// The lines that every account has.
+fn common_lines(sections: &Sections) -> usize {
+    let constraints = sections.constraints.iter();
+    let contracts = sections.contracts.iter();
+    let benefiting = |record| {
+        factors(record)
+            .iter()
+            .filter(|&&factor| factor != 0)
+            .count()
+    };
+    let by_constraint: usize = constraints.map(|record| lines_by_mode(record[6])).sum();
+    let by_contract: usize = contracts.map(|record| 2 * benefiting(record)).sum();
+    by_constraint + by_contract
+}
+
+fn own_energy_rows(rows: &[[u8; 24]], account: u32) -> &[[u8; 24]] {
+    let start = rows.partition_point(|row| u32_at(row, 0) < account);
+    let own = rows[start..]
+        .iter()
+        .take_while(|row| u32_at(row, 0) == account);
+    let count = own.count();
+    &rows[start..start + count]
+}
+
+fn own_energy(rows: &[[u8; 24]]) -> Totals {
+    let mut own = [[0; 3]; 5];
+    for row in rows {
+        own[usize::from(row[4])] = [
+            size_at(row, 8),
+            u32_at(row, 12),
+            size_at(row, 16) + u32_at(row, 20),
+        ];
+    }
+    own
+}
+
+fn header_of(sections: &Sections, account: u32, lines: usize) -> [u8; 24] {
+    let mut header = [0; 24];
+    header[..8].copy_from_slice(b"RCS\0\x01\0\0\0");
+    header[6..14].copy_from_slice(&sections.header[6..14]);
+    header[14..16].copy_from_slice(&(lines as u16).to_le_bytes());
+    header[16..20].copy_from_slice(&account.to_le_bytes());
+    debug_assert_eq!(u16_at(&header, 4), 1);
+    header
+}
+
+/// Writing the lines of an account.
+struct Settling<'l> {
+    totals: Totals,
+    own: Totals,
+    account: u32,
+    slots: IterMut<'l, [u8; 24]>,
+}
+
+impl Settling<'_> {
+    fn write(mut self, sections: &Sections) {
+        let mut units = sections.units;
+        for record in sections.constraints {
+            match record[6] {
+                0 => self.contingency(record),
+                1 => self.factored(record, own_run(&mut units, record)),
+                _ => self.default(record, own_run(&mut units, record)),
+            }
+        }
+        for record in sections.contracts {
+            self.contract(record);
+        }
+    }
+
+    #[inline(always)]
+    fn line(&mut self, id: u32, part: u8, regions: u8, unit: u32, amount: i64) {
+        let slot = self.slots.next().expect("the lines were counted");
+        let front = u64::from(id) | u64::from(part) << 32 | u64::from(regions) << 40;
+        slot[..8].copy_from_slice(&front.to_le_bytes());
+        slot[8..16].copy_from_slice(&u64::from(unit).to_le_bytes());
+        slot[16..].copy_from_slice(&amount.to_le_bytes());
+    }
+
+    /// Own and total energy of a kind over the regions of a mask.
+    #[inline(always)]
+    fn over(&self, regions: u8, kind: usize) -> (u64, u64) {
+        let mut over = (0, 0);
+        for region in 0..5 {
+            if regions >> region & 1 == 1 {
+                over.0 += u64::from(self.own[region][kind]);
+                over.1 += u64::from(self.totals[region][kind]);
+            }
+        }
+        over
+    }
+
+    fn contingency(&mut self, record: &[u8; 40]) {
+        let [service, regions] = [record[4], record[5]];
+        let kind = usize::from(service % 2);
+        let (own, total) = self.over(regions, kind);
+        let amount = -(share(u64_at(record, 8), own, total) as i64);
+        self.line(u32_at(record, 0), 1 + kind as u8, regions, 0, amount);
+    }
+
+    fn factored(&mut self, record: &[u8; 40], rows: &[[u8; 20]]) {
+        let (id, regions) = (u32_at(record, 0), record[5]);
+        let pools = Pools::of(record);
+        for row in rows {
+            if u32_at(row, 8) == self.account {
+                let unit = u32_at(row, 4);
+                let amounts = pools.by_factors(i32_at(row, 12), size_at(row, 16));
+                for (part, amount) in (3..).zip(amounts) {
+                    self.line(id, part, regions, unit, amount);
+                }
+            }
+        }
+        let (own, total) = self.over(regions, 2);
+        for (part, pool) in (6..).zip(pools.residual(record)) {
+            let size = share(pool.unsigned_abs(), own, total) as i64;
+            self.line(id, part, regions, 0, size * pool.signum());
+        }
+    }
+
+    fn default(&mut self, record: &[u8; 40], rows: &[[u8; 20]]) {
+        let (id, regions) = (u32_at(record, 0), record[5]);
+        let pools = Pools::of(record);
+        for row in rows {
+            if u32_at(row, 8) == self.account {
+                let [.., unused] = pools.by_factors(0, size_at(row, 16));
+                self.line(id, 5, regions, u32_at(row, 4), unused);
+            }
+        }
+        let (own, total) = self.over(regions, 2);
+        let [.., pool] = pools.residual(record);
+        let amount = -(share(pool.unsigned_abs(), own, total) as i64);
+        self.line(id, 8, regions, 0, amount);
+    }
+
+    fn contract(&mut self, record: &[u8; 36]) {
+        let (id, payment) = (u32_at(record, 0), u64_at(record, 8));
+        for (region, factor) in factors(record).into_iter().enumerate() {
+            if factor == 0 {
+                continue;
+            }
+            for (kind, half) in halves(payment, factor).into_iter().enumerate() {
+                let own = self.own[region][kind].into();
+                let total = self.totals[region][kind].into();
+                let amount = -(share(half, own, total) as i64);
+                self.line(id, 9 + kind as u8, 1 << region, 0, amount);
+            }
+        }
+    }
+}
+
+/// Takes the rows that name a constraint from the front.
+#[inline(always)]
+pub(super) fn own_run<'b>(units: &mut &'b [[u8; 20]], constraint: &[u8; 40]) -> &'b [[u8; 20]] {
+    let id = u32_at(constraint, 0);
+    let count = units.iter().take_while(|row| u32_at(row, 0) == id).count();
+    let (run, rest) = units.split_at(count);
+    *units = rest;
+    run
+}
