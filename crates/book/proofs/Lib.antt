@@ -3,3 +3,4 @@ pub mod Room
 pub mod Steps
 pub mod Whole
 pub mod Promise
+pub mod Passes

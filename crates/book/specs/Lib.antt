@@ -3,3 +3,4 @@ pub mod Book
 pub mod Table
 pub mod Facts
 pub mod Accepted
+pub mod Passes

@@ -1,6 +1,7 @@
 // The verdict on a whole book, from any bytes: accepted, or the number and the place of the first refusal.
 pub mod header; // header.rt: the header and where the sections start
 mod checks; // checks.rt: checks 5 to 10, each over the whole book
+mod passes; // passes.rt: whether none of them refuses it, each long section in one pass
 
 ghost use mathlib.Core.Path.{_≡_};
 ghost use Rattle.book.specs.Table.{verdict};

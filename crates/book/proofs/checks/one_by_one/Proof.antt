@@ -1,9 +1,9 @@
--- `book::checks::records` meets its contract. Each check decides, or leaves the word and what it has shown to the next. Assumes nothing.
+-- `book::checks::one_by_one` meets its contract. Each check decides, or leaves the word and what it has shown to the next. Assumes nothing.
 use borrow.Author.Needs.{needs}
 use Rattle.book.proofs.Steps.{fields-of, ordered-of, named-of}
 use Rattle.sections.proofs.Refusal.{verdict-stop, verdict-go, verdict-last}
-use Rattle.book.proofs.checks.records.Statement.{statement}
-use Rattle.book.proofs.checks.records.Tie as tie
+use Rattle.book.proofs.checks.one_by_one.Statement.{statement}
+use Rattle.book.proofs.checks.one_by_one.Tie as tie
 
 fields-requires : tie.Need-fields-requires
 fields-requires c κs = search needs
@@ -65,8 +65,8 @@ earlier-requires c κs = search needs
 returns-5 : tie.Need-returns-5
 returns-5 c = verdict-go _ (c .before .before .before .before .before .before .before .before .before .before .before .before .enum-told .given .1) (c .before .before .before .before .before .before .before .before .before .before .before .before .before .before .fields .ensures) (verdict-go _ (c .before .before .before .before .before .before .before .before .before .enum-told2 .given .1) (c .before .before .before .before .before .before .before .before .before .before .before .order .ensures) (verdict-go _ (c .before .before .before .before .before .before .enum-told3 .given .1) (c .before .before .before .before .before .before .before .before .names .ensures) (verdict-go _ (c .before .before .before .enum-told4 .given .1) (c .before .before .before .before .before .factor-sums .ensures) (verdict-last (c .before .before .region-sums .ensures) (c .before .zero-totals .ensures) (c .earlier .ensures)))))
 
-pub records-spec : {M : Type 1} → statement M
-records-spec =
+pub one-by-one-spec : {M : Type 1} → statement M
+one-by-one-spec =
     tie.close
     (tie.spec
     fields-requires
