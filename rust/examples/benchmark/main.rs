@@ -15,7 +15,7 @@ use std::hint::black_box;
 
 use books::Asked;
 use fervolatro::book::Book;
-use fervolatro::reference::Kind;
+use fervolatro::reference::{Kind, Pool};
 use fervolatro::testing::generate::Sizes;
 use fervolatro::{fast, reference};
 use timing::{side_by_side, Times};
@@ -74,18 +74,16 @@ fn balance(asked: &Asked, pool: u64) -> Times {
     )
 }
 
-/// The pool with the most lines of each kind, and what one takes on average over all.
+/// A pool of each kind, and what one takes on average over all.
 fn balances(asked: &Asked) {
     let book = &asked.bytes[..];
-    let pools = reference::pools(&Book::decode(book));
-    let lines = |pool: &u64| fast::balance(book, *pool).map_or(0, |balance| balance.lines);
     for kind in Kind::ALL {
-        let of_kind = (0..).zip(&pools).filter(|(_, pool)| pool.kind == kind);
-        if let Some(pool) = of_kind.map(|(number, _)| number).max_by_key(lines) {
+        if let Some(pool) = fullest(book, kind) {
             let call = format!("balance, {kind:?}");
             println!("{}", balance(asked, pool).row(&call, asked));
         }
     }
+    let pools = reference::pools(&Book::decode(book));
     let numbers = 0..pools.len() as u64;
     let of_all = side_by_side(
         || {
@@ -99,6 +97,25 @@ fn balances(asked: &Asked) {
     );
     let each = of_all.divided_by(pools.len());
     println!("{}", each.row("balance, average", asked));
+}
+
+/// The pool of a kind that asks for most: by its lines, of those that have a residual
+/// pool, if there are.
+fn fullest(book: &[u8], kind: Kind) -> Option<u64> {
+    let decoded = Book::decode(book);
+    let has_residual = |id: u32| {
+        let mut constraints = decoded.constraints.iter();
+        constraints.any(|of| of.id == id && of.rcf < 0 && of.drcf < 0)
+    };
+    let asks_for = |pool: &Pool, number: u64| {
+        let lines = fast::balance(book, number).map_or(0, |balance| balance.lines);
+        (has_residual(pool.id), lines)
+    };
+    (0..)
+        .zip(reference::pools(&decoded))
+        .filter(|(_, pool)| pool.kind == kind)
+        .max_by_key(|(number, pool)| asks_for(pool, *number))
+        .map(|(number, _)| number)
 }
 
 /// How the times grow with the energy rows and with the unit rows, all else as large
@@ -119,6 +136,10 @@ fn growth() {
         let asked = books::of(sizes);
         println!("{}", check(&asked).row("check", &asked));
         println!("{}", statement(&asked).row("statement", &asked));
-        println!("{}", balance(&asked, 0).row("balance 0", &asked));
+        let pool = fullest(&asked.bytes, Kind::Contingency).expect("there is one");
+        println!(
+            "{}",
+            balance(&asked, pool).row("balance, Contingency", &asked)
+        );
     }
 }

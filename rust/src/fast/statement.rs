@@ -116,8 +116,8 @@ impl Settling<'_> {
         for record in sections.constraints {
             match record[6] {
                 0 => self.contingency(record),
-                1 => self.factored(record, own_run(&mut units, record)),
-                _ => self.default(record, own_run(&mut units, record)),
+                1 => self.factored(record, &mut units),
+                _ => self.default(record, &mut units),
             }
         }
         for record in sections.contracts {
@@ -155,10 +155,10 @@ impl Settling<'_> {
         self.line(u32_at(record, 0), 1 + kind as u8, regions, 0, amount);
     }
 
-    fn factored(&mut self, record: &[u8; 40], rows: &[[u8; 20]]) {
+    fn factored(&mut self, record: &[u8; 40], units: &mut &[[u8; 20]]) {
         let (id, regions) = (u32_at(record, 0), record[5]);
         let pools = Pools::of(record);
-        for row in rows {
+        while let Some(row) = take_row(units, id) {
             if u32_at(row, 8) == self.account {
                 let unit = u32_at(row, 4);
                 let amounts = pools.by_factors(i32_at(row, 12), size_at(row, 16));
@@ -174,10 +174,10 @@ impl Settling<'_> {
         }
     }
 
-    fn default(&mut self, record: &[u8; 40], rows: &[[u8; 20]]) {
+    fn default(&mut self, record: &[u8; 40], units: &mut &[[u8; 20]]) {
         let (id, regions) = (u32_at(record, 0), record[5]);
         let pools = Pools::of(record);
-        for row in rows {
+        while let Some(row) = take_row(units, id) {
             if u32_at(row, 8) == self.account {
                 let [.., unused] = pools.by_factors(0, size_at(row, 16));
                 self.line(id, 5, regions, u32_at(row, 4), unused);
@@ -205,12 +205,13 @@ impl Settling<'_> {
     }
 }
 
-/// Takes the rows that name a constraint from the front.
+/// Takes the row at the front if it names the constraint.
 #[inline(always)]
-pub(super) fn own_run<'b>(units: &mut &'b [[u8; 20]], constraint: &[u8; 40]) -> &'b [[u8; 20]] {
-    let id = u32_at(constraint, 0);
-    let count = units.iter().take_while(|row| u32_at(row, 0) == id).count();
-    let (run, rest) = units.split_at(count);
+pub(super) fn take_row<'b>(units: &mut &'b [[u8; 20]], constraint: u32) -> Option<&'b [u8; 20]> {
+    let (row, rest) = units.split_first()?;
+    if u32_at(row, 0) != constraint {
+        return None;
+    }
     *units = rest;
-    run
+    Some(row)
 }
