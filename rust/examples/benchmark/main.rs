@@ -20,6 +20,8 @@ use fervolatro::testing::generate::Sizes;
 use fervolatro::{fast, reference};
 use timing::{side_by_side, Times};
 
+const POOLS_AT_A_TIME: usize = 4;
+
 /// In bytes.
 const LONGEST_STATEMENT: usize = 51_672;
 
@@ -83,20 +85,27 @@ fn balances(asked: &Asked) {
             println!("{}", balance(asked, pool).row(&call, asked));
         }
     }
-    let pools = reference::pools(&Book::decode(book));
-    let numbers = 0..pools.len() as u64;
-    let of_all = side_by_side(
-        || {
-            let mut numbers = numbers.clone();
-            numbers.all(|pool| fervolatro::balance(black_box(book), pool).is_ok())
-        },
-        || {
-            let mut numbers = numbers.clone();
-            numbers.all(|pool| fast::balance(black_box(book), pool).is_ok())
-        },
-    );
-    let each = of_all.divided_by(pools.len());
-    println!("{}", each.row("balance, average", asked));
+    println!("{}", average(book).row("balance, average", asked));
+}
+
+/// What a pool takes on average over all, a few at a time: a round of all would be so
+/// long that something else always came between.
+fn average(book: &[u8]) -> Times {
+    let count = reference::pools(&Book::decode(book)).len();
+    let numbers: Vec<u64> = (0..count as u64).collect();
+    let of_all = numbers.chunks(POOLS_AT_A_TIME).map(|few| {
+        side_by_side(
+            || {
+                few.iter()
+                    .all(|&pool| fervolatro::balance(black_box(book), pool).is_ok())
+            },
+            || {
+                few.iter()
+                    .all(|&pool| fast::balance(black_box(book), pool).is_ok())
+            },
+        )
+    });
+    of_all.sum::<Times>().divided_by(count)
 }
 
 /// The pool of a kind that asks for most: by its lines, of those that have a residual

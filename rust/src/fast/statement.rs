@@ -5,7 +5,7 @@
 use std::slice::IterMut;
 
 use super::check::{checked, factors, totals, Totals};
-use super::layout::{i32_at, size_at, u16_at, u32_at, u64_at, Sections};
+use super::layout::{i32_at, size_at, u32_at, u64_at, Sections};
 use super::shares::{halves, share, Pools};
 use crate::Refusal;
 
@@ -94,11 +94,10 @@ fn own_energy(rows: &[[u8; 24]]) -> Totals {
 
 fn header_of(sections: &Sections, account: u32, lines: usize) -> [u8; 24] {
     let mut header = [0; 24];
-    header[..8].copy_from_slice(b"RCS\0\x01\0\0\0");
+    header[..6].copy_from_slice(b"RCS\0\x01\0");
     header[6..14].copy_from_slice(&sections.header[6..14]);
     header[14..16].copy_from_slice(&(lines as u16).to_le_bytes());
     header[16..20].copy_from_slice(&account.to_le_bytes());
-    debug_assert_eq!(u16_at(&header, 4), 1);
     header
 }
 
