@@ -5,7 +5,8 @@
 //! statement of the same rules, written from the scope document (01) alone;
 //! [`book`] and [`mod@statement`] have the records and their bytes, [`testing`]
 //! what the tests build books and statements with. `cargo test` compares the two
-//! on some hundred thousand of each.
+//! on some hundred thousand of each. [`fast`] is the same once more, written for
+//! speed, for the benchmark to hold the library against.
 
 use std::error::Error;
 use std::fmt;

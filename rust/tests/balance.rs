@@ -46,7 +46,7 @@ fn library_and_reference_balance_the_same() {
 #[test]
 fn statements_of_all_accounts_make_the_balance() {
     let mut run = Run::new();
-    for (books, most) in [(4_000, Sizes::SMALL), (500, Sizes::MEDIUM)] {
+    for (books, most) in [(8_000, Sizes::SMALL), (1_000, Sizes::MEDIUM)] {
         for _ in 0..books {
             let book = run.accepted(most);
             run.add_statements(&book);
@@ -56,8 +56,10 @@ fn statements_of_all_accounts_make_the_balance() {
         let book = book_of_halves(&mut run.random);
         run.add_statements(&book);
     }
-    let largest = run.accepted_of(Sizes::LARGEST);
-    run.add_statements(&largest);
+    for _ in 0..3 {
+        let largest = run.accepted_of(Sizes::LARGEST);
+        run.add_statements(&largest);
+    }
     report::print(&run.report_of_sums());
     run.pools.assert_all_seen();
 }
@@ -281,14 +283,14 @@ fn lines_of_all(book: &Book, bytes: &[u8]) -> Vec<Line> {
 }
 
 fn small_books(run: &mut Run) {
-    for _ in 0..14_000 {
+    for _ in 0..20_000 {
         let book = run.accepted(Sizes::SMALL);
         run.compare_accepted(&book);
     }
 }
 
 fn medium_books(run: &mut Run) {
-    for _ in 0..2_500 {
+    for _ in 0..5_000 {
         let book = run.accepted(Sizes::MEDIUM);
         run.compare_accepted(&book);
     }
@@ -319,7 +321,7 @@ fn ends(run: &mut Run) {
 }
 
 fn large_books(run: &mut Run) {
-    for round in 0..24 {
+    for round in 0..60 {
         let book = match round % 4 {
             0 => run.accepted_of(Sizes::LARGEST),
             _ => run.accepted(Sizes::LARGEST),

@@ -37,8 +37,11 @@ pub fn all() -> Vec<Asked> {
     let mut random = Random::new(SEED);
     let mut middling = accepted_book(&mut random, MIDDLING);
     share_units(&mut random, &mut middling);
-    let largest = accepted_book(&mut random, Sizes::LARGEST);
-    let longest = largest_of_longest_statement(&mut random);
+    let mut largest = accepted_book(&mut random, Sizes::LARGEST);
+    let mut longest = largest_of_longest_statement(&mut random);
+    for book in [&mut middling, &mut largest, &mut longest] {
+        leave_no_pool_empty(&mut random, book);
+    }
     vec![
         Asked::new("worked", &worked_book(), 7),
         Asked::new("middling", &middling, middling.units[0].account),
@@ -51,9 +54,27 @@ pub fn all() -> Vec<Asked> {
 
 /// A book of these sizes, named after them, and an account that has energy.
 pub fn of(sizes: Sizes) -> Asked {
-    let book = accepted_book(&mut Random::new(SEED), sizes);
+    let mut random = Random::new(SEED);
+    let mut book = accepted_book(&mut random, sizes);
+    leave_no_pool_empty(&mut random, &mut book);
     let name = format!("{} unit, {} energy", sizes.units, sizes.energies);
     Asked::new(&name, &book, book.energies[0].account)
+}
+
+/// Gives every pool an amount: one of nothing takes less time, and the random books of
+/// the tests have many.
+fn leave_no_pool_empty(random: &mut Random, book: &mut Book) {
+    let mut money = || random.between(1_000_000_000, 50_000_000_000);
+    for constraint in &mut book.constraints {
+        constraint.cost = money();
+        if constraint.mode == 1 {
+            (constraint.price, constraint.rcr) = (9_855, 90_000);
+            constraint.usage = 400_000;
+        }
+    }
+    for contract in &mut book.contracts {
+        contract.payment = money();
+    }
 }
 
 /// The largest legal book in which account 7 has the longest statement there is: all

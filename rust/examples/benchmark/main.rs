@@ -15,10 +15,12 @@ use std::hint::black_box;
 
 use books::Asked;
 use fervolatro::book::Book;
-use fervolatro::reference::Kind;
+use fervolatro::reference::{Kind, Pool};
 use fervolatro::testing::generate::Sizes;
 use fervolatro::{fast, reference};
 use timing::{side_by_side, Times};
+
+const POOLS_AT_A_TIME: usize = 4;
 
 /// In bytes.
 const LONGEST_STATEMENT: usize = 51_672;
@@ -74,31 +76,55 @@ fn balance(asked: &Asked, pool: u64) -> Times {
     )
 }
 
-/// The pool with the most lines of each kind, and what one takes on average over all.
+/// A pool of each kind, and what one takes on average over all.
 fn balances(asked: &Asked) {
     let book = &asked.bytes[..];
-    let pools = reference::pools(&Book::decode(book));
-    let lines = |pool: &u64| fast::balance(book, *pool).map_or(0, |balance| balance.lines);
     for kind in Kind::ALL {
-        let of_kind = (0..).zip(&pools).filter(|(_, pool)| pool.kind == kind);
-        if let Some(pool) = of_kind.map(|(number, _)| number).max_by_key(lines) {
+        if let Some(pool) = fullest(book, kind) {
             let call = format!("balance, {kind:?}");
             println!("{}", balance(asked, pool).row(&call, asked));
         }
     }
-    let numbers = 0..pools.len() as u64;
-    let of_all = side_by_side(
-        || {
-            let mut numbers = numbers.clone();
-            numbers.all(|pool| fervolatro::balance(black_box(book), pool).is_ok())
-        },
-        || {
-            let mut numbers = numbers.clone();
-            numbers.all(|pool| fast::balance(black_box(book), pool).is_ok())
-        },
-    );
-    let each = of_all.divided_by(pools.len());
-    println!("{}", each.row("balance, average", asked));
+    println!("{}", average(book).row("balance, average", asked));
+}
+
+/// What a pool takes on average over all, a few at a time: a round of all would be so
+/// long that something else always came between.
+fn average(book: &[u8]) -> Times {
+    let count = reference::pools(&Book::decode(book)).len();
+    let numbers: Vec<u64> = (0..count as u64).collect();
+    let of_all = numbers.chunks(POOLS_AT_A_TIME).map(|few| {
+        side_by_side(
+            || {
+                few.iter()
+                    .all(|&pool| fervolatro::balance(black_box(book), pool).is_ok())
+            },
+            || {
+                few.iter()
+                    .all(|&pool| fast::balance(black_box(book), pool).is_ok())
+            },
+        )
+    });
+    of_all.sum::<Times>().divided_by(count)
+}
+
+/// The pool of a kind that asks for most: by its lines, of those that have a residual
+/// pool, if there are.
+fn fullest(book: &[u8], kind: Kind) -> Option<u64> {
+    let decoded = Book::decode(book);
+    let has_residual = |id: u32| {
+        let mut constraints = decoded.constraints.iter();
+        constraints.any(|of| of.id == id && of.rcf < 0 && of.drcf < 0)
+    };
+    let asks_for = |pool: &Pool, number: u64| {
+        let lines = fast::balance(book, number).map_or(0, |balance| balance.lines);
+        (has_residual(pool.id), lines)
+    };
+    (0..)
+        .zip(reference::pools(&decoded))
+        .filter(|(_, pool)| pool.kind == kind)
+        .max_by_key(|(number, pool)| asks_for(pool, *number))
+        .map(|(number, _)| number)
 }
 
 /// How the times grow with the energy rows and with the unit rows, all else as large
@@ -119,6 +145,10 @@ fn growth() {
         let asked = books::of(sizes);
         println!("{}", check(&asked).row("check", &asked));
         println!("{}", statement(&asked).row("statement", &asked));
-        println!("{}", balance(&asked, 0).row("balance 0", &asked));
+        let pool = fullest(&asked.bytes, Kind::Contingency).expect("there is one");
+        println!(
+            "{}",
+            balance(&asked, pool).row("balance, Contingency", &asked)
+        );
     }
 }

@@ -1,6 +1,7 @@
 //! Times of two calls side by side.
 
 use std::hint::black_box;
+use std::iter::Sum;
 use std::time::{Duration, Instant};
 
 use super::books::Asked;
@@ -48,6 +49,19 @@ fn round(call: &mut impl FnMut() -> bool, calls: u32) -> f64 {
         assert!(black_box(call()), "it is accepted");
     }
     start.elapsed().as_nanos() as f64 / f64::from(calls)
+}
+
+impl Sum for Times {
+    fn sum<I: Iterator<Item = Times>>(times: I) -> Self {
+        let none = Times {
+            library: 0.0,
+            fast: 0.0,
+        };
+        times.fold(none, |sum, times| Times {
+            library: sum.library + times.library,
+            fast: sum.fast + times.fast,
+        })
+    }
 }
 
 impl Times {

@@ -6,10 +6,12 @@
 //! open-addressed, more than three times as large as there can be of them, while the
 //! check passes the rows; each account of energy rows is then looked up in it.
 
+use std::cell::Cell;
+
 use super::check::{checked, factors, totals, Totals};
 use super::layout::{i32_at, size_at, u32_at, u64_at, Sections};
 use super::shares::{halves, share, Pools};
-use super::statement::own_run;
+use super::statement::take_row;
 use crate::{Balance, Refusal};
 
 /// A book shorter than this has fewer than 128 unit rows.
@@ -151,14 +153,18 @@ fn shared<const SLOTS: usize>(
     (amount, total, regions): (u64, u64, u8),
     energy: impl Fn(&[u8; 24]) -> u32,
 ) -> (i64, u64) {
-    let own = std::cell::Cell::new(0);
+    let rows = sections.energies;
+    if amount == 0 {
+        return (0, accounts.with_energies(rows, |_| {}, || {}));
+    }
+    let own = Cell::new(0);
     let mut sum = 0;
     let count = accounts.with_energies(
-        sections.energies,
+        rows,
         |row| {
-            if regions >> row[4] & 1 == 1 {
-                own.set(own.get() + u64::from(energy(row)));
-            }
+            // By product, as whether a row's region is asked for is hard to foresee.
+            let is_in = u64::from(regions >> row[4] & 1);
+            own.set(own.get() + is_in * u64::from(energy(row)));
         },
         || sum += share(amount, own.take(), total),
     );
@@ -203,17 +209,19 @@ fn regulation<const SLOTS: usize>(
     );
     let residual_of = |row: &[u8; 24]| size_at(row, 16) + u32_at(row, 20);
     let (sum, count) = shared(sections, accounts, pool, residual_of);
+    let mut balance = Balance {
+        amount: [0, pools.used, pools.unused][what] as i64,
+        lines: count,
+        sum: residual.signum() * sum,
+    };
     let id = u32_at(record, 0);
     let start = sections.units.partition_point(|row| u32_at(row, 0) < id);
-    let units = own_run(&mut &sections.units[start..], record);
-    let unit_lines = units
-        .iter()
-        .map(|row| pools.by_factors(i32_at(row, 12), size_at(row, 16))[what]);
-    Balance {
-        amount: [0, pools.used, pools.unused][what] as i64,
-        lines: units.len() as u64 + count,
-        sum: unit_lines.sum::<i64>() + residual.signum() * sum,
+    let mut units = &sections.units[start..];
+    while let Some(row) = take_row(&mut units, id) {
+        balance.lines += 1;
+        balance.sum += pools.by_factors(i32_at(row, 12), size_at(row, 16))[what];
     }
+    balance
 }
 
 fn contract<const SLOTS: usize>(

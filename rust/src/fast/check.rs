@@ -211,20 +211,13 @@ fn units(
     let mut before = 0;
     for (index, record) in sections.units.iter().enumerate() {
         let place = start + 20 * index;
-        let (constraint, unit) = (u32_at(record, 0), u32_at(record, 4));
-        let account = u32_at(record, 8);
-        let (cf, default) = (i32_at(record, 12), size_at(record, 16));
-        let holds = (constraint != 0)
-            & (unit != 0)
-            & (account != 0)
-            & (cf.wrapping_add(1_000_000) as u32 <= 2_000_000)
-            & (default <= 1_000_000);
-        refuse_unless(holds, 5, place)?;
+        refuse_unless(unit_row_keeps_rules(record), 5, place)?;
         let key = pair(record);
         if key <= before {
             note(&mut first.order, place);
         }
         before = key;
+        let constraint = u32_at(record, 0);
         if constraint != current.id {
             current = walk.go_to(constraint, sums, first);
             sums = Sums::default();
@@ -232,11 +225,20 @@ fn units(
                 note(&mut first.name, place);
             }
         }
-        sums.add(cf, default);
-        on_unit(account, current.mode);
+        sums.add(i32_at(record, 12), size_at(record, 16));
+        on_unit(u32_at(record, 8), current.mode);
     }
     walk.go_to_end(sums, first);
     Ok(())
+}
+
+#[inline(always)]
+fn unit_row_keeps_rules(record: &[u8; 20]) -> bool {
+    (u32_at(record, 0) != 0)
+        & (u32_at(record, 4) != 0)
+        & (u32_at(record, 8) != 0)
+        & (u32_at(record, 12).wrapping_add(1_000_000) <= 2_000_000)
+        & (size_at(record, 16) <= 1_000_000)
 }
 
 /// The factors of the unit rows of a constraint: sizes of CFs above and below 0, and

@@ -1,5 +1,6 @@
 //! The rules once more, written for speed: what the benchmark holds the library
-//! against. Nothing is allocated, and no section is passed more than twice.
+//! against. Nothing is allocated, and no unit row or energy row is passed more than
+//! twice, once to check it and once to settle it.
 //!
 //! It is no second reference: `tests/fast.rs` compares it with that one.
 

@@ -5,7 +5,7 @@
 use std::slice::IterMut;
 
 use super::check::{checked, factors, totals, Totals};
-use super::layout::{i32_at, size_at, u16_at, u32_at, u64_at, Sections};
+use super::layout::{i32_at, size_at, u32_at, u64_at, Sections};
 use super::shares::{halves, share, Pools};
 use crate::Refusal;
 
@@ -94,11 +94,10 @@ fn own_energy(rows: &[[u8; 24]]) -> Totals {
 
 fn header_of(sections: &Sections, account: u32, lines: usize) -> [u8; 24] {
     let mut header = [0; 24];
-    header[..8].copy_from_slice(b"RCS\0\x01\0\0\0");
+    header[..6].copy_from_slice(b"RCS\0\x01\0");
     header[6..14].copy_from_slice(&sections.header[6..14]);
     header[14..16].copy_from_slice(&(lines as u16).to_le_bytes());
     header[16..20].copy_from_slice(&account.to_le_bytes());
-    debug_assert_eq!(u16_at(&header, 4), 1);
     header
 }
 
@@ -116,8 +115,8 @@ impl Settling<'_> {
         for record in sections.constraints {
             match record[6] {
                 0 => self.contingency(record),
-                1 => self.factored(record, own_run(&mut units, record)),
-                _ => self.default(record, own_run(&mut units, record)),
+                1 => self.factored(record, &mut units),
+                _ => self.default(record, &mut units),
             }
         }
         for record in sections.contracts {
@@ -155,10 +154,10 @@ impl Settling<'_> {
         self.line(u32_at(record, 0), 1 + kind as u8, regions, 0, amount);
     }
 
-    fn factored(&mut self, record: &[u8; 40], rows: &[[u8; 20]]) {
+    fn factored(&mut self, record: &[u8; 40], units: &mut &[[u8; 20]]) {
         let (id, regions) = (u32_at(record, 0), record[5]);
         let pools = Pools::of(record);
-        for row in rows {
+        while let Some(row) = take_row(units, id) {
             if u32_at(row, 8) == self.account {
                 let unit = u32_at(row, 4);
                 let amounts = pools.by_factors(i32_at(row, 12), size_at(row, 16));
@@ -174,10 +173,10 @@ impl Settling<'_> {
         }
     }
 
-    fn default(&mut self, record: &[u8; 40], rows: &[[u8; 20]]) {
+    fn default(&mut self, record: &[u8; 40], units: &mut &[[u8; 20]]) {
         let (id, regions) = (u32_at(record, 0), record[5]);
         let pools = Pools::of(record);
-        for row in rows {
+        while let Some(row) = take_row(units, id) {
             if u32_at(row, 8) == self.account {
                 let [.., unused] = pools.by_factors(0, size_at(row, 16));
                 self.line(id, 5, regions, u32_at(row, 4), unused);
@@ -205,12 +204,13 @@ impl Settling<'_> {
     }
 }
 
-/// Takes the rows that name a constraint from the front.
+/// Takes the row at the front if it names the constraint.
 #[inline(always)]
-pub(super) fn own_run<'b>(units: &mut &'b [[u8; 20]], constraint: &[u8; 40]) -> &'b [[u8; 20]] {
-    let id = u32_at(constraint, 0);
-    let count = units.iter().take_while(|row| u32_at(row, 0) == id).count();
-    let (run, rest) = units.split_at(count);
+pub(super) fn take_row<'b>(units: &mut &'b [[u8; 20]], constraint: u32) -> Option<&'b [u8; 20]> {
+    let (row, rest) = units.split_first()?;
+    if u32_at(row, 0) != constraint {
+        return None;
+    }
     *units = rest;
-    run
+    Some(row)
 }
