@@ -51,7 +51,8 @@ fn by_region(energy: &[u8], n: usize) -> Totals
     }
 }
 
-fn entry_is(e: Entry, t: Totals, g: usize) -> bool
+// Whether a region's entry has the region's sums.
+pub fn entry_is(e: Entry, t: Totals, g: usize) -> bool
     requires { ⌜ g < 5 ⌝ }
     ensures { λ b. ⌜ b ≡ entryIs e (getD (t .ace) g 0) (getD (t .asoe) g 0) (getD (t .residual) g 0) ⌝ }
 {

@@ -1,0 +1,3 @@
+pub mod EnergyRows
+pub mod EnergyTurns
+pub mod EnergyEnd

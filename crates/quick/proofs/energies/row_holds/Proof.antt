@@ -1,0 +1,14 @@
+-- `quick::energies::row_holds` meets its contract: each test that is joined gives its fact. Assumes nothing.
+use borrow.Author.Needs.{needs}
+use Rattle.quick.proofs.EnergyRows.{row-holds}
+use Rattle.quick.proofs.energies.row_holds.Statement.{statement}
+use Rattle.quick.proofs.energies.row_holds.Tie as tie
+
+key-of-requires : tie.Need-key-of-requires
+key-of-requires c κs = search needs
+
+returns : tie.Need-returns
+returns c = row-holds _ _ _ _ (c .before .before .before .pre) (search needs) (search needs) (c .before .before .key-of .ensures)
+
+pub row-holds-spec : {M : Type 1} → statement M
+row-holds-spec = tie.close (tie.spec key-of-requires returns)

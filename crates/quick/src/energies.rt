@@ -1,0 +1,123 @@
+// The energy rows in one pass: their fields, their order and the sums by region, which are then held against the region entries.
+// An energy is no larger than its region's sum, so that the limit of an entry is the limit of its rows too, and no row is held against it.
+ghost use mathlib.Core.Path.{_≡_};
+ghost use mathlib.Core.Bool.{true};
+ghost use Prim.Native.Nat.{ℕ, _+_, _*_, _≤_, _<_};
+ghost use lib.ListN.{length, getD, set};
+ghost use Rattle.records.specs.Rows.{entryRow, energyRow};
+ghost use Rattle.totals.specs.declared.entries.Totals.{Totals};
+ghost use Rattle.quick.specs.Holds.{EnergiesHold};
+ghost use Rattle.quick.specs.Energies.{RowHolds, Room, Added, SummedIs, EntryHolds};
+use ground::read;
+use records::rows;
+use records::rows::EnergyRow;
+use totals::entries;
+use totals::entries::Totals;
+
+// Whether all rows hold, and the sums by region if they do.
+pub struct Summed {
+    pub holds: bool,
+    pub totals: Totals,
+}
+
+// The region of row i and its three reserved bytes, as one number.
+fn head_at(energy: &[u8], i: usize) -> u32
+    requires { ⌜ (i + 1) * 24 ≤ length (now energy) ⌝ }
+    ensures { λ h. ⌜ h ≡ energyRow (now (energy .entry)) i .region + 256 * energyRow (now (energy .entry)) i .spare ⌝ }
+{
+    read::u32_at(energy, i * 24 + 4)
+}
+
+// Rows rise where these numbers do.
+fn key_of(account: u32, head: u32) -> u64
+    ensures { λ k. ⌜ k ≡ account * 4294967296 + head ⌝ }
+{
+    (account as u64) * 4294967296 + (head as u64)
+}
+
+// Whether a row has a region, reserved bytes of 0 and residuals within its energies, and is above the row before it.
+fn row_holds(r: EnergyRow, head: u32, before: u64) -> bool
+    requires { ⌜ head ≡ r .region + 256 * r .spare ⌝ }
+    ensures { λ b. ⌜ (b ≡ true → RowHolds before r) ⌝ }
+{
+    (before < key_of(r.account, head)) & (head <= 4) & (r.race <= r.ace) & (r.rasoe <= r.asoe)
+}
+
+// One more number in region g's sum.
+fn add(a: &mut [u64; 5], g: usize, x: u64)
+    requires { ⌜ (g < 5) × ((getD (now a) g 0 ≤ 8796093022208) × (x ≤ 8589934592)) ⌝ }
+    ensures { λ _. ⌜ now (a .exit) ≡ set (now (a .entry)) g (getD (now (a .entry)) g 0 + x) ⌝ }
+{
+    a[g] = a[g] + x;
+}
+
+// A row in its region's sums.
+fn add_row(ace: &mut [u64; 5], asoe: &mut [u64; 5], residual: &mut [u64; 5], r: EnergyRow, g: usize)
+    requires { ⌜ (g < 5) × Room (record { ace = now ace; asoe = now asoe; residual = now residual }) g ⌝ }
+    ensures { λ _. ⌜ Added (record { ace = now (ace .entry); asoe = now (asoe .entry); residual = now (residual .entry) }) g r (record { ace = now (ace .exit); asoe = now (asoe .exit); residual = now (residual .exit) }) ⌝ }
+{
+    add(ace, g, r.ace as u64);
+    add(asoe, g, r.asoe as u64);
+    add(residual, g, (r.race as u64) + (r.rasoe as u64));
+}
+
+// The n energy rows in order, up to the first that does not hold.
+fn sum_rows(energy: &[u8], n: usize) -> Summed
+    requires { ⌜ (n * 24 ≤ length (now energy)) × (n ≤ 1024) ⌝ }
+    ensures { λ p. ⌜ (p .holds ≡ true → SummedIs (energyRow (now (energy .entry))) n (p .totals)) ⌝ }
+{
+    let mut ace = [0u64; 5];
+    let mut asoe = [0u64; 5];
+    let mut residual = [0u64; 5];
+    let mut before = 4294967295;
+    let mut i = 0;
+    while i < n {
+        let r = rows::energy_row(energy, i);
+        let head = head_at(energy, i);
+        if !row_holds(r, head, before) {
+            return Summed {
+                holds: false,
+                totals: Totals {
+                    ace,
+                    asoe,
+                    residual,
+                },
+            };
+        }
+        add_row(&mut ace, &mut asoe, &mut residual, r, head as usize);
+        before = key_of(r.account, head);
+        i += 1;
+    }
+    Summed {
+        holds: true,
+        totals: Totals {
+            ace,
+            asoe,
+            residual,
+        },
+    }
+}
+
+// Whether an entry has its region's sums, and energies within the limit.
+fn entry_holds(regions: &[u8], t: Totals, g: usize) -> bool
+    requires { ⌜ (60 ≤ length (now regions)) × (g < 5) ⌝ }
+    ensures { λ b. ⌜ (b ≡ true → EntryHolds (entryRow (now (regions .entry)) g) t g) ⌝ }
+{
+    let e = rows::entry_row(regions, g);
+    entries::entry_is(e, t, g) & (e.ace <= 20000000) & (e.asoe <= 20000000)
+}
+
+// Whether the region entries and the n energy rows keep checks 5, 6 and 9 of energy rows.
+pub fn energies_hold(regions: &[u8], energy: &[u8], n: usize) -> bool
+    requires { ⌜ (60 ≤ length (now regions)) × ((n * 24 ≤ length (now energy)) × (n ≤ 1024)) ⌝ }
+    ensures { λ b. ⌜ (b ≡ true → EnergiesHold (energyRow (now (energy .entry))) n (entryRow (now (regions .entry)))) ⌝ }
+{
+    let p = sum_rows(energy, n);
+    let t = p.totals;
+    p.holds
+        & entry_holds(regions, t, 0)
+        & entry_holds(regions, t, 1)
+        & entry_holds(regions, t, 2)
+        & entry_holds(regions, t, 3)
+        & entry_holds(regions, t, 4)
+}
