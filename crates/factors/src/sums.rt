@@ -43,7 +43,8 @@ fn add(t: Sums, r: UnitRow) -> Sums
     }
 }
 
-fn sums_ok(r: Constraint, t: Sums) -> bool
+// Whether the sums of a constraint's rows keep its rule.
+pub fn sums_ok(r: Constraint, t: Sums) -> bool
     requires { ⌜ (t .plus ≤ 600000000) × ((t .minus ≤ 600000000) × (t .dcf ≤ 600000000)) ⌝ }
     ensures { λ b. ⌜ b ≡ sumsOk r (t .plus) (t .minus) (t .dcf) ⌝ }
 {

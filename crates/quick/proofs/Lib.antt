@@ -1,3 +1,5 @@
 pub mod EnergyRows
 pub mod EnergyTurns
 pub mod EnergyEnd
+pub mod UnitTurns
+pub mod UnitWalk

@@ -1,0 +1,199 @@
+-- A run over the unit rows of one constraint, turn by turn, and what its constraint's test shows. Assumes nothing.
+use Prim.Native.Nat.{ℕ, zero, suc, _+_, _-_, _*_, _≤_, _<_}
+use mathlib.Core.List.{List, [], _∷_}
+use mathlib.Core.Path.{_≡_, refl, sym, ap, _∙_}
+use mathlib.Core.Bool.{Bool, true, false, cond, not, _&&_, _||_}
+use mathlib.Core.Logic.{⊎-elim}
+use borrow.Author.Tests.{leb-true, eqb-true, ltb-true, lt-ltb, eq-eqb, not-false}
+use borrow.Author.Count.{below-more}
+use lib.Dec.{eqb, leb, ltb}
+use native.Mathlib.Omega.{arith}
+use native.Mathlib.Nat.{le-refl}
+use Rattle.ground.specs.Bytes.{u32At}
+use Rattle.ground.specs.Sizes.{sizeOf, plusOf, minusOf}
+use Rattle.ground.proofs.Every.{every}
+use Rattle.sections.specs.Order.{risesBy, pairBelow}
+use Rattle.sections.specs.Walk.{Under}
+use Rattle.sections.specs.Total.{total, keyed}
+use Rattle.sections.proofs.Order.{rises-first, rises-later}
+use Rattle.sections.proofs.Total.{total-zero, total-bound, keyed-miss, keyed-le}
+use Rattle.sections.proofs.Walk.{sum-more}
+use Rattle.records.specs.Rows.{unitRow}
+use Rattle.records.specs.Rules.{unitBelow}
+use Rattle.records.specs.declared.rows.Constraint.{Constraint}
+use Rattle.records.specs.declared.rows.UnitRow.{UnitRow}
+use Rattle.factors.specs.Naming.{keyOf}
+use Rattle.factors.specs.Factors.{sumsOk, sumOver}
+use Rattle.factors.specs.Runs.{Added}
+use Rattle.factors.specs.declared.sums.Sums.{Sums}
+use Rattle.quick.specs.Units.{follows, smallSums, Followed, Taken, Settled}
+
+-- a pass that answers false says nothing
+pub unsaid : {A : Type 0} → _≡_ {A = Bool} false true → A
+unsaid e = absurd (no e)
+  where
+    no : _≡_ {A = Bool} false true → ⊥
+    no e = let z : _≡_ {A = ℕ} 0 1 = cc in omega arith
+
+-- ---- order
+
+or-right : (p : Bool) {q : Bool} → q ≡ true → (p || q) ≡ true
+or-right true e = refl
+or-right false e = e
+
+pair-first : (a x b y : ℕ) → a < b → pairBelow a x b y ≡ true
+pair-first a x b y l = rw (lt-ltb a b l)
+
+pair-second : (a x b y : ℕ) → a ≡ b → x < y → pairBelow a x b y ≡ true
+pair-second a x b y e l = or-right (ltb a b) (rw (eq-eqb a b e, lt-ltb x y l))
+
+-- a row above the one before it, if there is one
+rises-at : (row : ℕ → UnitRow) (u : ℕ) → ((i : ℕ) → suc i ≡ u → unitBelow (row i) (row u) ≡ true) → risesBy unitBelow row u ≡ true
+rises-at row zero h = sym (rises-first unitBelow row 0 refl)
+rises-at row (suc i) h =
+    let back : i ≡ suc i - 1 = omega arith in
+    sym (rises-later unitBelow row (suc i) (λ (q : suc i ≡ 0). omega arith) (ap row back) refl (sym (h i refl)))
+
+-- ---- the run
+
+module _ (row : ℕ → UnitRow) (m k start : ℕ) where
+  -- the rows taken so far; a row of k whose unit is above `last` is above the row before it
+  pub record Going (t : Sums) (last : ℕ) : Type 0 where
+    pub taken : Taken row m k start t
+    pub above : (i x : ℕ) → suc i ≡ t .next → last < x → pairBelow (row i .constraint) (row i .unit) k x ≡ true
+
+  pub going-start : start ≤ m → Under (keyOf row) start k → Going (record { next = start; plus = 0; minus = 0; dcf = 0 }) 0
+  going-start l under =
+      record {
+        taken = record {
+          low = le-refl start;
+          high = l;
+          each = λ i a b. absurd (none i a b);
+          plus = nothing (λ r. r .plus);
+          minus = nothing (λ r. r .minus);
+          dcf = nothing (λ r. r .dcf);
+        };
+        above = λ i x e h. pair-first (row i .constraint) (row i .unit) k x (under i (omega arith));
+      }
+    where
+      none : (i : ℕ) → start ≤ i → i < start → ⊥
+      none i a b = omega arith
+
+      nothing : (f : UnitRow → ℕ) → 0 ≡ sumOver row start k f
+      nothing f = total-zero _ start (λ i b. keyed-miss (keyOf row) k (λ u. f (row u)) i (λ (q : keyOf row i ≡ k). omega (arith, under i b)))
+
+  pub going-more : {t x : Sums} {r : UnitRow} {last : ℕ} {b : Bool} → Going t last → t .next < m → r ≡ row (t .next) → b ≡ follows r k last → not b ≡ false → Added t r x → Going x (r .unit)
+  going-more {t} {x} {r} {last} {b} g l e q n a =
+      let h = every (eqb (r .constraint) k ∷ ltb last (r .unit) ∷ leb 1 (r .account) ∷ []) (sym q ∙ not-false b n) in
+      let u = t .next in
+      let key : row u .constraint ≡ k = rw e at (eqb-true (r .constraint) k (h .0)) in
+      let up : last < row u .unit = rw e at (ltb-true last (r .unit) (h .1 .0)) in
+      let acc : 1 ≤ row u .account = rw e at (leb-true 1 (r .account) (h .1 .1 .0)) in
+      let s = g .taken in
+      let here : Followed row k u =
+      record {
+        same = key;
+        unit = omega arith;
+        account = acc;
+        order = rises-at row u (λ i z. rw key (g .above i (row u .unit) z up));
+      }
+      in
+      record {
+        taken = record {
+          low = omega (arith, a .next, s .low);
+          high = omega (arith, a .next);
+          each = λ i c d. below-more (λ (i : ℕ). start ≤ i → Followed row k i) u (λ i y z. s .each i z y) (λ _. here) i (rw (a .next) at d) c;
+          plus = rw (a .plus, a .next) (sum-more _ m k _ u (s .plus) key (ap (λ (r : UnitRow). r .plus) e));
+          minus = rw (a .minus, a .next) (sum-more _ m k _ u (s .minus) key (ap (λ (r : UnitRow). r .minus) e));
+          dcf = rw (a .dcf, a .next) (sum-more _ m k _ u (s .dcf) key (ap (λ (r : UnitRow). r .dcf) e));
+        };
+        above = λ i y z w. last-row u i y key (ap (λ (r : UnitRow). r .unit) e) (omega (arith, a .next)) w;
+      }
+    where
+      last-row : (u i y : ℕ) {z : ℕ} → row u .constraint ≡ k → z ≡ row u .unit → i ≡ u → z < y → pairBelow (row i .constraint) (row i .unit) k y ≡ true
+      last-row u i y key e q w = rw q (pair-second (row u .constraint) (row u .unit) k y key (rw e at w))
+
+-- ---- sums that fit
+
+plus-narrow : (w : ℕ) → plusOf w ≤ 4294967295
+unfolding plusOf
+plus-narrow w = by (ltb w 2147483648) refl
+  where
+    by : (t : Bool) → ltb w 2147483648 ≡ t → cond t w 0 ≤ 4294967295
+    by true e = let l = ltb-true w 2147483648 e in omega arith
+    by false e = omega arith
+
+size-narrow : (w : ℕ) → sizeOf w ≤ 4294967295
+size-narrow w = omega arith
+
+minus-narrow : (w : ℕ) → minusOf w ≤ 4294967295
+unfolding minusOf
+minus-narrow w = by (ltb w 2147483648)
+  where
+    by : (t : Bool) → cond t 0 (sizeOf w) ≤ 4294967295
+    by true = omega arith
+    by false = size-narrow w
+
+module _ (s : List ℕ) where
+  row-plus : (i : ℕ) → unitRow s i .plus ≤ 4294967295
+  unfolding unitRow
+  row-plus i = plus-narrow (u32At s (i * 20 + 12))
+
+  row-minus : (i : ℕ) → unitRow s i .minus ≤ 4294967295
+  unfolding unitRow
+  row-minus i = minus-narrow (u32At s (i * 20 + 12))
+
+  row-dcf : (i : ℕ) → unitRow s i .dcf ≤ 4294967295
+  unfolding unitRow
+  row-dcf i = size-narrow (u32At s (i * 20 + 16))
+
+  bound : (f : UnitRow → ℕ) (n k : ℕ) → n ≤ 600 → ((i : ℕ) → f (unitRow s i) ≤ 4294967295) → sumOver (unitRow s) n k f ≤ 3000000000000
+  bound f n k few h =
+      omega (arith, total-bound (keyed (keyOf (unitRow s)) k (λ u. f (unitRow s u))) 4294967295 n (λ i _. keyed-le (keyOf (unitRow s)) k (λ u. f (unitRow s u)) 4294967295 i (h i)))
+
+  -- sums of at most 600 sizes of 32 bits
+  pub record Fits (t : Sums) : Type 0 where
+    pub plus : t .plus ≤ 3000000000000
+    pub minus : t .minus ≤ 3000000000000
+    pub dcf : t .dcf ≤ 3000000000000
+
+  pub taken-fits : (m k start : ℕ) {t : Sums} → m ≤ 600 → Taken (unitRow s) m k start t → Fits t
+  taken-fits m k start {t} few h =
+      let l : t .next ≤ 600 = omega (arith, h .high) in
+      record {
+        plus = rw (h .plus) (bound (λ r. r .plus) (t .next) k l row-plus);
+        minus = rw (h .minus) (bound (λ r. r .minus) (t .next) k l row-minus);
+        dcf = rw (h .dcf) (bound (λ r. r .dcf) (t .next) k l row-dcf);
+      }
+
+-- ---- the test of a constraint
+
+pub record Small (t : Sums) : Type 0 where
+  pub plus : t .plus ≤ 1000000
+  pub minus : t .minus ≤ 1000000
+  pub dcf : t .dcf ≤ 1000000
+
+pub small-sums : (t : Sums) {b : Bool} → b ≡ smallSums t → not b ≡ false → Small t
+small-sums t {b} e n =
+    let h = every (leb (t .plus) 1000000 ∷ leb (t .minus) 1000000 ∷ leb (t .dcf) 1000000 ∷ []) (sym e ∙ not-false b n) in
+    record {
+      plus = leb-true (t .plus) 1000000 (h .0);
+      minus = leb-true (t .minus) 1000000 (h .1 .0);
+      dcf = leb-true (t .dcf) 1000000 (h .1 .1 .0);
+    }
+
+-- so they are what the test of the sums asks for
+pub small-room : {t : Sums} → Small t → (t .plus ≤ 600000000) × ((t .minus ≤ 600000000) × (t .dcf ≤ 600000000))
+small-room h = (omega (arith, h .plus), (omega (arith, h .minus), omega (arith, h .dcf)))
+
+pub settled : (r : Constraint) (t : Sums) (start : ℕ) {b : Bool} → Small t → b ≡ sumsOk r (t .plus) (t .minus) (t .dcf) → (leb 1 (r .id) && (not (eqb (r .mode) 0) || eqb (t .next) start) && b) ≡ true → Settled r t start
+settled r t start {b} s e h =
+    let g = every (leb 1 (r .id) ∷ (not (eqb (r .mode) 0) || eqb (t .next) start) ∷ b ∷ []) h in
+    record {
+      id = leb-true 1 (r .id) (g .0);
+      live = λ (q : r .mode ≡ 0). eqb-true (t .next) start (rw (eq-eqb (r .mode) 0 q) at (g .1 .0));
+      plus = s .plus;
+      minus = s .minus;
+      dcf = s .dcf;
+      sums = sym e ∙ g .1 .1 .0;
+    }

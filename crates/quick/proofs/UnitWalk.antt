@@ -1,0 +1,150 @@
+-- The walk over the constraints, run after run: what is known of the rows taken so far stays true, and at the end all rows are taken.
+-- Assumes nothing.
+use Prim.Native.Nat.{ℕ, zero, suc, _+_, _≤_, _<_}
+use mathlib.Core.List.{[], _∷_}
+use mathlib.Core.Path.{_≡_, refl, sym, ap, _∙_}
+use mathlib.Core.Bool.{Bool, true, false, not, _&&_, _||_}
+use mathlib.Core.Logic.{⊎-elim}
+use borrow.Author.Tests.{le-leb, eq-eqb, ne-eqb}
+use borrow.Author.Count.{below-none, below-more}
+use lib.Dec.{eqb, leb}
+use native.Mathlib.Omega.{arith}
+use native.Mathlib.Nat.{le-refl, le-trans, not-suc-le-zero, eq-or-lt-of-le, le-of-suc-le-suc}
+use Rattle.ground.proofs.Every.{all}
+use Rattle.sections.specs.Order.{risesBy, Rises}
+use Rattle.sections.specs.Search.{some}
+use Rattle.sections.specs.Walk.{Under}
+use Rattle.sections.specs.Total.{total, keyed}
+use Rattle.sections.proofs.Search.{lt-or-ge}
+use Rattle.sections.proofs.Total.{total-rest, keyed-hit, keyed-miss}
+use Rattle.records.specs.Rules.{unitTests, unitOk, unitBelow}
+use Rattle.records.specs.declared.rows.Constraint.{Constraint}
+use Rattle.records.specs.declared.rows.UnitRow.{UnitRow}
+use Rattle.factors.specs.Naming.{idOf, keyOf, namedAt, Owner}
+use Rattle.factors.specs.Factors.{sumsOk, sumOver, factorsAt}
+use Rattle.factors.specs.declared.sums.Sums.{Sums}
+use Rattle.factors.proofs.Runs.{none-is}
+use Rattle.quick.specs.Holds.{UnitsHold}
+use Rattle.quick.specs.Units.{Followed, Taken, Settled}
+
+-- one of the numbers is at most their sum
+total-part : (f : ℕ → ℕ) (n i : ℕ) → i < n → f i ≤ total f n
+unfolding total
+total-part f zero i l = absurd (not-suc-le-zero l)
+total-part f (suc n) i l =
+    ⊎-elim
+    (λ (e : i ≡ n). rw e (omega arith))
+    (λ (h : i < n). omega (arith, total-part f n i h))
+    (eq-or-lt-of-le (le-of-suc-le-suc l))
+
+-- a record that passes is found
+some-here : (p : ℕ → Bool) (n i : ℕ) → i < n → p i ≡ true → some p n ≡ true
+unfolding some
+some-here p zero i l e = absurd (not-suc-le-zero l)
+some-here p (suc n) i l e =
+    ⊎-elim
+    (λ (q : i ≡ n). or-right (some p n) (rw q at e))
+    (λ (h : i < n). rw (some-here p n i h e))
+    (eq-or-lt-of-le (le-of-suc-le-suc l))
+  where
+    or-right : (a : Bool) {b : Bool} → b ≡ true → (a || b) ≡ true
+    or-right true e = refl
+    or-right false e = e
+
+module _ (con : ℕ → Constraint) (n : ℕ) (row : ℕ → UnitRow) (m : ℕ) where
+  -- the first j constraints and the rows before place u keep all rules, where only those rows count
+  pub record Passed (j u : ℕ) : Type 0 where
+    pub high : u ≤ m
+    pub own : (i : ℕ) → i < u → Owner con j row i
+    pub fields : (i : ℕ) → i < u → unitOk (row i) ≡ true
+    pub order : (i : ℕ) → i < u → risesBy unitBelow row i ≡ true
+    pub sums : (i : ℕ) → i < j → sumsOk (con i) (sumOver row u (con i .id) (λ r. r .plus)) (sumOver row u (con i .id) (λ r. r .minus)) (sumOver row u (con i .id) (λ r. r .dcf)) ≡ true
+
+  pub passed-start : Passed 0 0
+  passed-start =
+      record { high = omega arith; own = below-none _; fields = below-none _; order = below-none _; sums = below-none _ }
+
+  -- the rows before the cursor name constraints before the next
+  pub passed-under : (j u : ℕ) {r : Constraint} → Rises (idOf con) n → j < n → r ≡ con j → Passed j u → Under (keyOf row) u (r .id)
+  passed-under j u s l e p i h =
+      let o = p .own i h in
+      rw (e, ← o .same) (s .rise (o .place) j (o .within) l)
+
+  module _ (s : Rises (idOf con) n) (j u : ℕ) (l : j < n) (p : Passed j u) {t : Sums} (h : Taken row m (con j .id) u t) (g : Settled (con j) t u) where
+    -- what holds of the rows before the run and of those of the run
+    both : (P : ℕ → Type 0) → ((i : ℕ) → i < u → P i) → ((i : ℕ) → u ≤ i → i < t .next → P i) → (i : ℕ) → i < t .next → P i
+    both P a b i d = ⊎-elim (λ (x : i < u). a i x) (λ (x : u ≤ i). b i x d) (lt-or-ge i u)
+
+    -- a number of a row in the run is at most the sum
+    part : (f : UnitRow → ℕ) {x : ℕ} (i : ℕ) → i < t .next → row i .constraint ≡ con j .id → x ≡ sumOver row (t .next) (con j .id) f → x ≤ 1000000 → f (row i) ≤ 1000000
+    part f i d e q b =
+        let z = total-part (keyed (keyOf row) (con j .id) (λ v. f (row v))) (t .next) i d in
+        rw (keyed-hit (keyOf row) (con j .id) (λ v. f (row v)) i e) (omega arith)
+
+    fields-of : (i : ℕ) → u ≤ i → i < t .next → unitOk (row i) ≡ true
+    fields-of i a d =
+        let f = h .each i a d in
+        all (unitTests (row i)) (
+          le-leb 1 (row i .constraint) (rw (f .same) (g .id)),
+          (
+            le-leb 1 (row i .unit) (f .unit),
+            (
+              le-leb 1 (row i .account) (f .account),
+              (
+                le-leb (row i .plus) 1000000 (part (λ r. r .plus) i d (f .same) (h .plus) (g .plus)),
+                (
+                  le-leb (row i .minus) 1000000 (part (λ r. r .minus) i d (f .same) (h .minus) (g .minus)),
+                  (le-leb (row i .dcf) 1000000 (part (λ r. r .dcf) i d (f .same) (h .dcf) (g .dcf)), tt),
+                ),
+              ),
+            ),
+          ),
+        )
+
+    own-of : (i : ℕ) → u ≤ i → i < t .next → Owner con (j + 1) row i
+    own-of i a d =
+        record {
+          place = j;
+          within = omega arith;
+          same = sym (h .each i a d .same);
+          live = λ (q : con j .mode ≡ 0). omega (arith, g .live q);
+        }
+
+    wider : (i : ℕ) → i < u → Owner con (j + 1) row i
+    wider i a = let o = p .own i a in record { place = o .place; within = omega (arith, o .within); same = o .same; live = o .live }
+
+    -- the run adds nothing to the sums of earlier constraints
+    kept : (f : UnitRow → ℕ) (i : ℕ) → i < j → sumOver row u (con i .id) f ≡ sumOver row (t .next) (con i .id) f
+    kept f i a =
+        total-rest _ u (t .next) (h .low) (λ v b d. keyed-miss (keyOf row) (con i .id) (λ w. f (row w)) v
+        (λ (q : keyOf row v ≡ con i .id). omega (arith, h .each v b d .same, s .rise i j a l)))
+
+    passed-next : Passed (j + 1) (t .next)
+    passed-next =
+        record {
+          high = h .high;
+          own = both (Owner con (j + 1) row) wider own-of;
+          fields = both (λ (i : ℕ). unitOk (row i) ≡ true) (p .fields) fields-of;
+          order = both (λ (i : ℕ). risesBy unitBelow row i ≡ true) (p .order) (λ i a d. h .each i a d .order);
+          sums = below-more _ j
+              (λ i a. rw (kept (λ r. r .plus) i a, kept (λ r. r .minus) i a, kept (λ r. r .dcf) i a) at (p .sums i a))
+              (rw (h .plus, h .minus, h .dcf) at (g .sums));
+        }
+
+  pub passed-more : (j u : ℕ) {r : Constraint} {t : Sums} → Rises (idOf con) n → j < n → r ≡ con j → Passed j u → Taken row m (r .id) u t → Settled r t u → Passed (j + 1) (t .next)
+  passed-more j u s l e p h g = passed-next s j u l p (rw e at h) (rw e at g)
+
+  -- all constraints passed, and all rows taken
+  pub passed-all : (j u : ℕ) → Passed j u → j ≡ n → u ≡ m → UnitsHold con n row m
+  unfolding namedAt factorsAt
+  passed-all j u q e d =
+      let p : Passed n m = rw (e, d) at q in
+      record {
+        fields = p .fields;
+        order = p .order;
+        named = λ i l. named i (p .own i l);
+        factored = λ i l. rw (none-is row m (con i .id)) at (p .sums i l);
+      }
+    where
+      named : (i : ℕ) → Owner con n row i → some (λ k. eqb (idOf con k) (keyOf row i) && not (eqb (con k .mode) 0)) n ≡ true
+      named i o = some-here (λ k. eqb (idOf con k) (keyOf row i) && not (eqb (con k .mode) 0)) n (o .place) (o .within) (rw (eq-eqb (con (o .place) .id) (row i .constraint) (o .same), ne-eqb (con (o .place) .mode) 0 (o .live)))

@@ -1,0 +1,108 @@
+// The unit rows beside the constraints, in one pass: checks 5 and 6 of the unit rows, 7 and 8.
+// The rows of a constraint are a run. A row that breaks its run is never taken, since the ids of later constraints are larger, so that all is
+// well only where every row was taken. No row's factors are tested: sums of at most 1,000,000 have no larger part.
+ghost use mathlib.Core.Path.{_≡_};
+ghost use mathlib.Core.Bool.{true};
+ghost use Prim.Native.Nat.{_+_, _*_, _≤_};
+ghost use lib.ListN.{length};
+ghost use Rattle.sections.specs.Order.{Rises};
+ghost use Rattle.sections.specs.Walk.{Under};
+ghost use Rattle.records.specs.Rows.{constraintRow, unitRow};
+ghost use Rattle.factors.specs.Naming.{idOf, keyOf};
+ghost use Rattle.factors.specs.Runs.{Added};
+ghost use Rattle.quick.specs.Holds.{UnitsHold};
+ghost use Rattle.quick.specs.Units.{follows, smallSums, Taken, Settled};
+use factors::sums;
+use factors::sums::Sums;
+use records::rows;
+use records::rows::Constraint;
+use records::rows::UnitRow;
+
+// Whether a row belongs to the run: it is of this constraint, above the row before, and has an account.
+fn in_run(r: UnitRow, key: u32, last: u32) -> bool
+    ensures { λ b. ⌜ b ≡ follows r key last ⌝ }
+{
+    (r.constraint == key) & (last < r.unit) & (1 <= r.account)
+}
+
+// A sum over at most 600 rows, and one row's size more.
+fn more(sum: u64, by: u32) -> u64
+    requires { ⌜ sum ≤ 3000000000000 ⌝ }
+    ensures { λ r. ⌜ r ≡ sum + by ⌝ }
+{
+    sum + (by as u64)
+}
+
+fn take(t: Sums, r: UnitRow) -> Sums
+    requires { ⌜ (t .next ≤ 600) × ((t .plus ≤ 3000000000000) × ((t .minus ≤ 3000000000000) × (t .dcf ≤ 3000000000000))) ⌝ }
+    ensures { λ x. ⌜ Added t r x ⌝ }
+{
+    Sums {
+        next: t.next + 1,
+        plus: more(t.plus, r.plus),
+        minus: more(t.minus, r.minus),
+        dcf: more(t.dcf, r.dcf),
+    }
+}
+
+// The rows of one constraint from a place on, as far as they follow each other: their sums, and the place behind them.
+fn run(units: &[u8], m: usize, from: usize, key: u32) -> Sums
+    requires { ⌜ (m * 20 ≤ length (now units)) × ((m ≤ 600) × (from ≤ m)) ⌝ }
+    requires { ⌜ Under (keyOf (unitRow (now units))) from key ⌝ }
+    ensures { λ t. ⌜ Taken (unitRow (now (units .entry))) m key from t ⌝ }
+{
+    let mut t = Sums {
+        next: from,
+        plus: 0,
+        minus: 0,
+        dcf: 0,
+    };
+    let mut last = 0;
+    while t.next < m {
+        let u = t.next;
+        let r = rows::unit_row(units, u);
+        if !in_run(r, key, last) {
+            return t;
+        }
+        last = r.unit;
+        t = take(t, r);
+    }
+    t
+}
+
+// Whether no sum is above 1,000,000, so that no row's factors are.
+fn small(t: Sums) -> bool
+    ensures { λ b. ⌜ b ≡ smallSums t ⌝ }
+{
+    (t.plus <= 1000000) & (t.minus <= 1000000) & (t.dcf <= 1000000)
+}
+
+// Whether a constraint keeps its rule with the sums of its run. One of mode 0 has no row.
+fn settles(r: Constraint, t: Sums, from: usize) -> bool
+    ensures { λ b. ⌜ (b ≡ true → Settled r t from) ⌝ }
+{
+    if !small(t) {
+        return false;
+    }
+    (1 <= r.id) & ((r.mode != 0) | (t.next == from)) & sums::sums_ok(r, t)
+}
+
+// Whether the unit rows and the constraints keep checks 5 to 8. Where it answers false, one of them may still keep all.
+pub fn units_hold(cons: &[u8], n: usize, units: &[u8], m: usize) -> bool
+    requires { ⌜ (n * 40 ≤ length (now cons)) × ((m * 20 ≤ length (now units)) × (m ≤ 600)) ⌝ }
+    requires { ⌜ Rises (idOf (constraintRow (now cons))) n ⌝ }
+    ensures { λ b. ⌜ (b ≡ true → UnitsHold (constraintRow (now (cons .entry))) n (unitRow (now (units .entry))) m) ⌝ }
+{
+    let mut u = 0;
+    let mut j = 0;
+    while j < n {
+        let r = rows::constraint_row(cons, j);
+        let t = run(units, m, u, r.id);
+        if !settles(r, t, u) {
+            return false;
+        }
+        u = t.next;
+        j += 1;
+    }
+    u == m
+}
