@@ -3,4 +3,4 @@ pub mod Room
 pub mod Steps
 pub mod Whole
 pub mod Promise
-pub mod Passes
+pub mod NoneRefuses

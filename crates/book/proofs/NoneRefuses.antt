@@ -2,6 +2,8 @@
 use Prim.Native.Nat.{ℕ}
 use mathlib.Core.List.{List}
 use mathlib.Core.Path.{_≡_, sym, _∙_}
+use mathlib.Core.Bool.{Bool, true, false, not}
+use borrow.Author.Tests.{not-false}
 use Rattle.ground.specs.Bytes.{partFrom}
 use Rattle.sections.specs.First.{firstBad}
 use Rattle.sections.specs.Order.{risesBy, Rises}
@@ -75,7 +77,31 @@ module _ (B : Book) {v : Verdict} (g : v ≡ Accepted) (q : v ≡ firstOf (short
     pub none-refuses : {w : Verdict} → w ≡ Accepted → w ≡ check10 B → firstOf (recordChecks B) ≡ Accepted
     unfolding check5 check6 check7 check8 check9 atRecord earlier firstOf
     none-refuses a z =
-        rw (short .entries, short .constraints, first-good (λ i. unitOk (B .unit i)) _ (u .fields), first-good (λ i. energyOk (B .energy i)) _ (n .fields), short .contracts,
-            short .rise, first-good (risesBy unitBelow (B .unit)) _ (u .order), first-good (risesBy energyBelow (B .energy)) _ (n .order), short .contracts-order,
-            first-good (namedAt (B .constraint) (B .header .constraints) (B .unit)) _ (u .named), first-good (factorsAt (B .unit) (B .header .units) (B .constraint)) _ (u .factored), first-good (entryAt (B .energy) (B .header .energies) (B .entry)) _ (n .sums),
-            sym z ∙ a)
+        rw (
+          short .entries,
+          short .constraints,
+          first-good (λ i. unitOk (B .unit i)) _ (u .fields),
+          first-good (λ i. energyOk (B .energy i)) _ (n .fields),
+          short .contracts,
+          short .rise,
+          first-good (risesBy unitBelow (B .unit)) _ (u .order),
+          first-good (risesBy energyBelow (B .energy)) _ (n .order),
+          short .contracts-order,
+          first-good (namedAt (B .constraint) (B .header .constraints) (B .unit)) _ (u .named),
+          first-good (factorsAt (B .unit) (B .header .units) (B .constraint)) _ (u .factored),
+          first-good (entryAt (B .energy) (B .header .energies) (B .entry)) _ (n .sums),
+          sym z ∙ a,
+        )
+
+-- ---- what a pass said of the sections where they stand; t is what it answered
+
+module _ (b : List ℕ) (h : Header) {a : ℕ} {t : Bool} where
+  pub units-said : a ≡ unitsFrom h → (t ≡ true → UnitsHold (constraintRow (partFrom 84 b)) (h .constraints) (unitRow (partFrom a b)) (h .units)) → not t ≡ false → UnitsHold (bookIn b h .constraint) (h .constraints) (bookIn b h .unit) (h .units)
+  units-said e f g = rw e at (f (not-false t g))
+
+  pub energies-said : a ≡ energiesFrom h → (t ≡ true → EnergiesHold (energyRow (partFrom a b)) (h .energies) (entryRow (partFrom 24 b))) → not t ≡ false → EnergiesHold (bookIn b h .energy) (h .energies) (bookIn b h .entry)
+  energies-said e f g = rw e at (f (not-false t g))
+
+-- nothing is said of a book that is not let pass
+pub never : {v w : Verdict} → _≡_ {A = Bool} false true → v ≡ w
+never z = cc

@@ -1,0 +1,20 @@
+-- `book::checks::records` meets its contract. No check refuses the book, or they are asked one by one. Assumes nothing.
+use mathlib.Core.Path.{sym}
+use borrow.Author.Needs.{needs}
+use Rattle.book.proofs.checks.records.Statement.{statement}
+use Rattle.book.proofs.checks.records.Tie as tie
+
+none-refuses-requires : tie.Need-none-refuses-requires
+none-refuses-requires c κs = search needs
+
+returns : tie.Need-returns
+returns c = sym (c .before .none-refuses .ensures (c .if1 .taken))
+
+one-by-one-requires : tie.Need-one-by-one-requires
+one-by-one-requires c κs = search needs
+
+returns-2 : tie.Need-returns-2
+returns-2 c = search needs
+
+pub records-spec : {M : Type 1} → statement M
+records-spec = tie.close (tie.spec none-refuses-requires returns one-by-one-requires returns-2)
