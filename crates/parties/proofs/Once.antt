@@ -13,7 +13,7 @@ use Rattle.sections.specs.Total.{total}
 use Rattle.sections.specs.Search.{some}
 use Rattle.sections.proofs.Search.{some-none}
 use Rattle.accounts.specs.Rows.{sumOf}
-use Rattle.parties.specs.Once.{has, joinNew, named, seen, times}
+use Rattle.parties.specs.Once.{has, joinNew, named, seen, times, newly}
 use Rattle.parties.proofs.Sums.{sum-plus, sum-none}
 
 -- ---- names seen
@@ -68,6 +68,13 @@ unseen name n a e = sym (or-false (seen name n a)) ∙ sym (has-named name n [] 
 
 -- ---- how often, and how many
 
+eqb-sym : (a b : ℕ) → eqb a b ≡ eqb b a
+eqb-sym a b = by (eqb a b) refl
+  where
+    by : (t : Bool) → eqb a b ≡ t → t ≡ eqb b a
+    by true h = sym (eq-eqb b a (sym (eqb-true a b h)))
+    by false h = sym (ne-eqb b a (λ q. eqb-false a b h (sym q)))
+
 once-join : (x : ℕ) (l : List ℕ) → ((a : ℕ) → times a l ≡ cond (has a l) 1 0) → (a : ℕ) → times a (joinNew x l) ≡ cond (has a (joinNew x l)) 1 0
 unfolding joinNew times has
 once-join x l o a = by (has x l) refl (eqb x a) refl
@@ -97,14 +104,40 @@ length-named name (suc n) l = by (has (name n) (named name n l)) (length-named n
     by true h = omega arith
     by false h = omega arith
 
--- ---- sums over names
-
-eqb-sym : (a b : ℕ) → eqb a b ≡ eqb b a
-eqb-sym a b = by (eqb a b) refl
+length-join : (x : ℕ) (l : List ℕ) → length (joinNew x l) ≡ length l + newly (has x l)
+unfolding joinNew
+length-join x l = by (has x l)
   where
-    by : (t : Bool) → eqb a b ≡ t → t ≡ eqb b a
-    by true h = sym (eq-eqb b a (sym (eqb-true a b h)))
-    by false h = sym (ne-eqb b a (λ q. eqb-false a b h (sym q)))
+    by : (t : Bool) → length (cond t l (x ∷ l)) ≡ length l + newly t
+    by true = omega arith
+    by false = omega arith
+
+-- a name joined before the records' names counts as one joined after them
+length-joined : (name : ℕ → ℕ) (n x : ℕ) (l : List ℕ) → length (named name n (joinNew x l)) ≡ length (named name n l) + newly (has x (named name n l))
+unfolding named seen some
+length-joined name zero x l = length-join x l
+length-joined name (suc n) x l =
+    rw (length-join (name n) (named name n (joinNew x l)), length-join (name n) (named name n l), length-joined name n x l, has-join (name n) x (named name n l), has-named name n (joinNew x l) (name n), has-join x (name n) l, has-named name n l (name n), has-named name n l x, eqb-sym (name n) x)
+    (by (eqb x (name n)) refl)
+  where
+    by : (t : Bool) → eqb x (name n) ≡ t → (length (named name n l) + newly (seen name n x || has x l)) + newly (seen name n (name n) || (t || has (name n) l)) ≡ (length (named name n l) + newly (seen name n (name n) || has (name n) l)) + newly (t || (seen name n x || has x l))
+    by true e = rw (eqb-true x (name n) e, or-true)
+    by false e = omega arith
+
+-- two kinds of records give as many names in either order
+pub named-turned : (f g : ℕ → ℕ) (n m : ℕ) → length (named f n (named g m [])) ≡ length (named g m (named f n []))
+unfolding named
+named-turned f g zero m = refl
+named-turned f g (suc n) m =
+    rw (length-join (f n) (named f n (named g m [])), length-joined g m (f n) (named f n []), named-turned f g n m, has-named f n (named g m []) (f n), has-named g m (named f n []) (f n), has-named f n [] (f n), has-named g m [] (f n))
+    (by (seen f n (f n)) (seen g m (f n)))
+  where
+    by : (t u : Bool) → length (named g m (named f n [])) + newly (t || (u || has (f n) [])) ≡ length (named g m (named f n [])) + newly (u || (t || has (f n) []))
+    by true true = refl
+    by true false = refl
+    by false u = refl
+
+-- ---- sums over names
 
 -- what one name adds, as often as it stands in the list
 sum-at : (b v : ℕ) (l : List ℕ) → sumOf (λ a. cond (eqb b a) v 0) l ≡ times b l * v

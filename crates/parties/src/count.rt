@@ -1,13 +1,14 @@
 // The accounts of a book: each that an energy row or a unit row names, counted once.
-// A row's account is read by itself: no other field is wanted here.
+// The unit rows come first, each linked to the one of its mark before it, so that an account is looked for among few of them. The
+// energy rows are sorted by account, and each account of theirs is looked for once among the unit rows.
 ghost use mathlib.Core.Path.{_≡_};
 ghost use mathlib.Core.List.{[]};
 ghost use Prim.Native.Nat.{_+_, _*_, _≤_, _<_};
-ghost use lib.ListN.{length};
-ghost use Rattle.sections.specs.Walk.{Stands};
+ghost use lib.ListN.{length, getD, set, replicate};
 ghost use Rattle.records.specs.Rows.{energyRow, unitRow};
+ghost use Rattle.parties.specs.Chains.{markOf, Last, Chained};
 ghost use Rattle.parties.specs.Once.{has, named, seen, newly};
-ghost use Rattle.parties.specs.Parties.{energyAccount, accountsIn, Sorted};
+ghost use Rattle.parties.specs.Parties.{energyAccount, unitAccount, accountsIn, Sorted};
 use ground::read;
 
 fn energy_account(energy: &[u8], i: usize) -> u32
@@ -24,80 +25,102 @@ fn unit_account(units: &[u8], u: usize) -> u32
     read::u32_at(units, u * 20 + 8)
 }
 
-// The first energy row whose account is not below a, by halves.
-fn first_row(energy: &[u8], n: usize, a: u32) -> usize
-    requires { ⌜ n * 24 ≤ length (now energy) ⌝ }
-    requires { ⌜ Sorted (energyRow (now energy)) n ⌝ }
-    ensures { λ i. ⌜ Stands (energyAccount (energyRow (now (energy .entry)))) n a i ⌝ }
+// The chain in which rows of an account stand.
+fn mark(a: u32) -> usize
+    ensures { λ h. ⌜ (h ≡ markOf a) × (h < 512) ⌝ }
 {
-    let mut low = 0;
-    let mut high = n;
-    while low < high {
-        let mid = low + (high - low) / 2;
-        if energy_account(energy, mid) < a {
-            low = mid + 1;
-        } else {
-            high = mid;
+    ((a as u64) * 2654435761 / 8388608 % 512) as usize
+}
+
+// Unit row u put at the end of chain h.
+fn link(last: &mut [u16; 512], before: &mut [u16; 600], h: usize, u: usize)
+    requires { ⌜ (h < 512) × (u < 600) ⌝ }
+    ensures { λ _. ⌜ now (last .exit) ≡ set (now (last .entry)) h (u + 1) ⌝ }
+    ensures { λ _. ⌜ now (before .exit) ≡ set (now (before .entry)) u (getD (now (last .entry)) h 0) ⌝ }
+{
+    before[u] = last[h];
+    last[h] = (u + 1) as u16;
+}
+
+// Whether one of the first u unit rows names the account: those of its chain are looked at, from the last on.
+fn in_units(units: &[u8], u: usize, last: &[u16; 512], before: &[u16; 600], a: u32) -> bool
+    requires { ⌜ (u ≤ 600) × (u * 20 ≤ length (now units)) ⌝ }
+    requires { ⌜ Chained (unitAccount (unitRow (now units))) u (now last) (now before) ⌝ }
+    ensures { λ b. ⌜ b ≡ seen (unitAccount (unitRow (now (units .entry)))) u a ⌝ }
+{
+    let mut p = last[mark(a)] as usize;
+    while 0 < p {
+        if unit_account(units, p - 1) == a {
+            return true;
         }
+        p = before[p - 1] as usize;
     }
-    low
+    false
 }
 
-// Whether an energy row names the account.
-fn in_energy(energy: &[u8], n: usize, a: u32) -> bool
-    requires { ⌜ n * 24 ≤ length (now energy) ⌝ }
-    requires { ⌜ Sorted (energyRow (now energy)) n ⌝ }
-    ensures { λ b. ⌜ b ≡ seen (energyAccount (energyRow (now (energy .entry)))) n a ⌝ }
+// 1 where no unit row before u names the account of unit row u, else 0. The row is then linked.
+fn new_unit(units: &[u8], u: usize, last: &mut [u16; 512], before: &mut [u16; 600]) -> usize
+    requires { ⌜ (u < 600) × ((u + 1) * 20 ≤ length (now units)) ⌝ }
+    requires { ⌜ Chained (unitAccount (unitRow (now units))) u (now last) (now before) ⌝ }
+    ensures { λ x. ⌜ x ≡ newly (seen (unitAccount (unitRow (now (units .entry)))) u (unitRow (now (units .entry)) u .account)) ⌝ }
+    ensures { λ _. ⌜ Chained (unitAccount (unitRow (now (units .entry)))) (u + 1) (now (last .exit)) (now (before .exit)) ⌝ }
 {
-    let i = first_row(energy, n, a);
-    if n <= i {
-        return false;
-    }
-    energy_account(energy, i) == a
-}
-
-// 1 where energy row i is the first of its account, else 0: the row before it tells.
-fn new_energy(energy: &[u8], n: usize, i: usize) -> usize
-    requires { ⌜ (n * 24 ≤ length (now energy)) × (i < n) ⌝ }
-    requires { ⌜ Sorted (energyRow (now energy)) n ⌝ }
-    ensures { λ x. ⌜ x ≡ newly (seen (energyAccount (energyRow (now (energy .entry)))) i (energyRow (now (energy .entry)) i .account)) ⌝ }
-{
-    if i == 0 {
-        return 1;
-    }
-    if energy_account(energy, i - 1) == energy_account(energy, i) {
+    let a = unit_account(units, u);
+    let known = in_units(units, u, last, before, a);
+    link(last, before, mark(a), u);
+    if known {
         return 0;
     }
     1
 }
 
-// How many accounts the energy rows name.
-fn energy_accounts(energy: &[u8], n: usize) -> usize
-    requires { ⌜ n * 24 ≤ length (now energy) ⌝ }
-    requires { ⌜ Sorted (energyRow (now energy)) n ⌝ }
-    ensures { λ c. ⌜ c ≡ length (named (energyAccount (energyRow (now (energy .entry)))) n []) ⌝ }
+// How many accounts the unit rows name. All of them are linked.
+fn unit_accounts(units: &[u8], m: usize, last: &mut [u16; 512], before: &mut [u16; 600]) -> usize
+    requires { ⌜ (m ≤ 600) × (m * 20 ≤ length (now units)) ⌝ }
+    requires { ⌜ Chained (unitAccount (unitRow (now units))) 0 (now last) (now before) ⌝ }
+    ensures { λ c. ⌜ c ≡ length (named (unitAccount (unitRow (now (units .entry)))) m []) ⌝ }
+    ensures { λ _. ⌜ Chained (unitAccount (unitRow (now (units .entry)))) m (now (last .exit)) (now (before .exit)) ⌝ }
 {
     let mut count = 0;
-    let mut i = 0;
-    while i < n {
-        count += new_energy(energy, n, i);
-        i += 1;
+    let mut u = 0;
+    while u < m {
+        count += new_unit(units, u, last, before);
+        u += 1;
     }
     count
 }
 
-// 1 where no energy row and no earlier unit row names the account of unit row u, else 0. The search by halves comes first,
-// so that only an account without energy is looked for row by row.
-fn new_unit(energy: &[u8], n: usize, units: &[u8], u: usize) -> usize
-    requires { ⌜ (n * 24 ≤ length (now energy)) × ((u + 1) * 20 ≤ length (now units)) ⌝ }
+// Whether an energy row before i names the account of energy row i: the one just before it tells.
+fn goes_on(energy: &[u8], n: usize, i: usize) -> bool
+    requires { ⌜ (n * 24 ≤ length (now energy)) × (i < n) ⌝ }
     requires { ⌜ Sorted (energyRow (now energy)) n ⌝ }
-    ensures { λ x. ⌜ x ≡ newly (has (unitRow (now (units .entry)) u .account) (accountsIn (energyRow (now (energy .entry))) n (unitRow (now (units .entry))) u)) ⌝ }
+    ensures { λ b. ⌜ b ≡ seen (energyAccount (energyRow (now (energy .entry)))) i (energyRow (now (energy .entry)) i .account) ⌝ }
 {
-    let a = unit_account(units, u);
-    if in_energy(energy, n, a) {
+    if i == 0 {
+        return false;
+    }
+    energy_account(energy, i - 1) == energy_account(energy, i)
+}
+
+// 1 where no unit row and no energy row before i names the account of energy row i, else 0.
+fn new_energy(
+    energy: &[u8],
+    n: usize,
+    i: usize,
+    units: &[u8],
+    m: usize,
+    last: &[u16; 512],
+    before: &[u16; 600],
+) -> usize
+    requires { ⌜ ((n * 24 ≤ length (now energy)) × (i < n)) × ((m ≤ 600) × (m * 20 ≤ length (now units))) ⌝ }
+    requires { ⌜ Sorted (energyRow (now energy)) n ⌝ }
+    requires { ⌜ Chained (unitAccount (unitRow (now units))) m (now last) (now before) ⌝ }
+    ensures { λ x. ⌜ x ≡ newly (has (energyRow (now (energy .entry)) i .account) (named (energyAccount (energyRow (now (energy .entry)))) i (named (unitAccount (unitRow (now (units .entry)))) m []))) ⌝ }
+{
+    if goes_on(energy, n, i) {
         return 0;
     }
-    if accounts::has_units(units, u, a) {
+    if in_units(units, m, last, before, energy_account(energy, i)) {
         return 0;
     }
     1
@@ -109,11 +132,13 @@ pub fn all_accounts(energy: &[u8], n: usize, units: &[u8], m: usize) -> usize
     requires { ⌜ Sorted (energyRow (now energy)) n ⌝ }
     ensures { λ c. ⌜ (c ≡ length (accountsIn (energyRow (now (energy .entry))) n (unitRow (now (units .entry))) m)) × (c ≤ 1624) ⌝ }
 {
-    let mut count = energy_accounts(energy, n);
-    let mut u = 0;
-    while u < m {
-        count += new_unit(energy, n, units, u);
-        u += 1;
+    let mut last = [0u16; 512];
+    let mut before = [0u16; 600];
+    let mut count = unit_accounts(units, m, &mut last, &mut before);
+    let mut i = 0;
+    while i < n {
+        count += new_energy(energy, n, i, units, m, &last, &before);
+        i += 1;
     }
     count
 }

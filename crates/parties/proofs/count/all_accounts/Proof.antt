@@ -1,49 +1,55 @@
--- `parties::count::all_accounts` meets its contract. The invariant: the count is the number of accounts of the energy rows and the unit rows so far. The measure is what is left. Assumes nothing.
+-- `parties::count::all_accounts` meets its contract. The invariant: the count is the number of accounts of the unit rows and the energy rows so far. The measure is what is left. Assumes nothing.
 use Prim.Native.Nat.{_≤_, _-_}
 use mathlib.Core.Path.{_≡_, _∙_}
+use mathlib.Core.List.{[]}
 use native.Mathlib.Omega.{arith}
 use borrow.Author.Needs.{needs}
 use lib.ListN.{length}
 use Rattle.records.specs.Rows.{energyRow, unitRow}
-use Rattle.parties.specs.Parties.{accountsIn}
-use Rattle.parties.proofs.Counting.{count-none, count-more, accounts-fit}
+use Rattle.parties.specs.Once.{named}
+use Rattle.parties.specs.Parties.{energyAccount, unitAccount}
+use Rattle.parties.proofs.Chains.{chained-none}
+use Rattle.parties.proofs.Counting.{count-none, count-more, count-few, accounts-turned, accounts-fit}
+use Rattle.parties.proofs.Once.{length-named}
 use Rattle.parties.proofs.count.all_accounts.Statement.{statement}
 use Rattle.parties.proofs.count.all_accounts.Tie as tie
 
 abbrev Inv-loop : tie.InvT-loop
-Inv-loop energy n units m count₀ u₀ count u = (u ≤ m) × (count ≡ length (accountsIn (energyRow energy) n (unitRow units) u))
+Inv-loop energy n units m last before count₀ i₀ count i = (i ≤ n) × (count ≡ length (named (energyAccount (energyRow energy)) i (named (unitAccount (unitRow units)) m [])))
 
 abbrev μ-loop : tie.MeasureT-loop
-μ-loop energy n units m count₀ u₀ count u = m - u
+μ-loop energy n units m last before count₀ i₀ count i = n - i
 
-energy-accounts-requires : tie.Need-energy-accounts-requires Inv-loop μ-loop
-energy-accounts-requires c κs = search needs
+unit-accounts-requires : tie.Need-unit-accounts-requires Inv-loop μ-loop
+unit-accounts-requires c κs = (c .before .before .before .before .pre .0 .1, chained-none _)
 
 loop-holds : tie.Need-loop-holds Inv-loop μ-loop
-unfolding accountsIn
-loop-holds c = (search needs, c .energy-accounts .ensures ∙ count-none _ _)
+loop-holds c = (search needs, c .unit-accounts .ensures .0 ∙ count-none _ _)
 
-new-unit-requires : tie.Need-new-unit-requires Inv-loop μ-loop
-new-unit-requires c κs = search needs
+new-energy-requires : tie.Need-new-energy-requires Inv-loop μ-loop
+new-energy-requires c κs =
+    let pre = c .before .before .before .before .before .before .before .before .before .pre in
+    (((pre .0 .0, c .before .before .loop-test .taken), pre .0 .1), (pre .1, c .before .before .before .before .unit-accounts .ensures .1))
 
 loop-again : tie.Need-loop-again Inv-loop μ-loop
-unfolding accountsIn
-loop-again c = (search needs, count-more _ _ _ (c .before .before .loop .inv .1) (c .new-unit .ensures))
+loop-again c = (search needs, count-more _ _ _ (c .before .before .before .before .loop .inv .1) (c .new-energy .ensures))
 
 add-count : tie.Need-add-count Inv-loop μ-loop
-add-count c = let pre = c .before .before .before .before .before .before .pre in omega (arith, accounts-fit _ _ (pre .1) (omega arith) (loop-again c .1))
+add-count c =
+    omega (arith, count-few _ _ _ (loop-again c .1), length-named (unitAccount (unitRow (c .before .before .before .before .before .before .before .before .before .before .args .units .now))) (c .before .before .before .before .before .before .before .before .before .before .args .m) [])
 
-add-u : tie.Need-add-u Inv-loop μ-loop
-add-u c = search needs
+add-i : tie.Need-add-i Inv-loop μ-loop
+add-i c = search needs
 
 loop-less : tie.Need-loop-less Inv-loop μ-loop
 loop-less c = search needs
 
 returns : tie.Need-returns Inv-loop μ-loop
 returns c =
-    let pre = c .before .before .before .before .before .pre in
-    let e : c .before .loop .u ≡ c .before .before .before .before .before .args .m = omega arith in
-    let all = rw e at (c .before .loop .inv .1) in
+    let pre = c .before .before .before .before .before .before .before .pre in
+    let args = c .before .before .before .before .before .before .before .args in
+    let e : c .before .loop .i ≡ args .n = omega arith in
+    let all = rw e at (c .before .loop .inv .1) ∙ accounts-turned (energyRow (args .energy .now)) _ (unitRow (args .units .now)) _ in
     (all, accounts-fit _ _ (pre .1) (pre .0 .1 .0) all)
 
 pub all-accounts-spec : {M : Type 1} → statement M
@@ -52,11 +58,11 @@ all-accounts-spec =
     (tie.spec
     Inv-loop
     μ-loop
-    energy-accounts-requires
+    unit-accounts-requires
     loop-holds
-    new-unit-requires
+    new-energy-requires
     add-count
-    add-u
+    add-i
     loop-less
     loop-again
     returns)

@@ -1,35 +1,45 @@
--- `parties::count::new_unit` meets its contract. The two searches say whether the account is known. Assumes nothing.
+-- `parties::count::new_unit` meets its contract. The search along the chain says whether the account is known; the row is then the last of its chain. Assumes nothing.
+use mathlib.Core.Path.{ap, _∙_}
 use borrow.Author.Needs.{needs}
-use Rattle.records.specs.Rows.{unitRow}
-use Rattle.parties.proofs.Counting.{energy-knows, unit-knows, none-knows}
+use Rattle.parties.specs.Chains.{markOf}
+use Rattle.parties.proofs.Chains.{chained-more}
+use Rattle.parties.proofs.Counting.{seen-old, seen-new}
 use Rattle.parties.proofs.count.new_unit.Statement.{statement}
 use Rattle.parties.proofs.count.new_unit.Tie as tie
 
 unit-account-requires : tie.Need-unit-account-requires
 unit-account-requires c κs = search needs
 
-in-energy-requires : tie.Need-in-energy-requires
-in-energy-requires c κs = search needs
+in-units-requires : tie.Need-in-units-requires
+in-units-requires c κs = search needs
+
+mark-requires : tie.Need-mark-requires
+mark-requires c κs = search needs
+
+link-requires : tie.Need-link-requires
+link-requires c κs = search needs
 
 returns : tie.Need-returns
-returns c = energy-knows _ _ (unitRow (c .before .before .before .before .before .args .units .now)) (c .before .before .before .before .before .args .u) (c .before .before .unit-account .ensures) (c .before .in-energy .ensures) (c .if1 .taken)
-
-has-units-requires : tie.Need-has-units-requires
-has-units-requires c κs = search needs
+returns c =
+    let account = c .before .before .before .before .before .before .before .before .unit-account .ensures in
+    let pre = c .before .before .before .before .before .before .before .before .before .before .pre in
+    let mark = c .before .before .mark .ensures in
+    (seen-old _ _ account (c .before .before .before .before .before .in-units .ensures) (c .if1 .taken), chained-more _ _ (pre .1) (mark .0 ∙ ap markOf account) (mark .1) (pre .0 .0) (c .before .link .ensures .0) (c .before .link .ensures .1))
 
 returns-2 : tie.Need-returns-2
-returns-2 c = unit-knows _ _ (unitRow (c .before .before .before .before .before .before .before .args .units .now)) (c .before .before .before .before .before .before .before .args .u) (c .before .before .before .before .unit-account .ensures) (c .before .has-units .ensures) (c .if2 .taken)
-
-returns-3 : tie.Need-returns-3
-returns-3 c = none-knows _ _ (unitRow (c .before .before .before .before .before .before .before .args .units .now)) (c .before .before .before .before .before .before .before .args .u) (c .before .before .before .before .unit-account .ensures) (c .before .before .before .in-energy .ensures) (c .before .before .if1 .left) (c .before .has-units .ensures) (c .if2 .left)
+returns-2 c =
+    let account = c .before .before .before .before .before .before .before .before .unit-account .ensures in
+    let pre = c .before .before .before .before .before .before .before .before .before .before .pre in
+    let mark = c .before .before .mark .ensures in
+    (seen-new _ _ account (c .before .before .before .before .before .in-units .ensures) (c .if1 .left), chained-more _ _ (pre .1) (mark .0 ∙ ap markOf account) (mark .1) (pre .0 .0) (c .before .link .ensures .0) (c .before .link .ensures .1))
 
 pub new-unit-spec : {M : Type 1} → statement M
 new-unit-spec =
     tie.close
     (tie.spec
     unit-account-requires
-    in-energy-requires
+    in-units-requires
+    mark-requires
+    link-requires
     returns
-    has-units-requires
-    returns-2
-    returns-3)
+    returns-2)
