@@ -61,7 +61,7 @@ loop-again : tie.Need-loop-again Inv-loop μ-loop
 loop-again c = walk-on _ _ _ (c .before .before .before .before .before .before .before .before .pre .1) (c .before .before .before .before .loop .inv) (c .before .before .before .loop-test .taken) refl (c .before .before .unit-account .ensures) (c .before .if1 .left) refl
 
 returns-2 : tie.Need-returns-2 Inv-loop μ-loop
-returns-2 c = walk-end _ _ _ (c .before .loop .inv) (c .loop-test .left)
+returns-2 c = walk-end _ _ _ (c .before .loop .inv) (omega arith)
 
 pub in-units-spec : {M : Type 1} → statement M
 in-units-spec =
