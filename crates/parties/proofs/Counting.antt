@@ -1,8 +1,8 @@
 -- Accounts counted row by row: whether a row's account is known, and what the count comes to. Assumes nothing.
 use Prim.Native.Nat.{ℕ, _+_, _-_, _≤_, _<_}
-use mathlib.Core.Path.{_≡_, refl, _∙_, sym}
-use mathlib.Core.List.{List, [], _∷_}
-use mathlib.Core.Bool.{Bool, true, false, cond, _||_, or-true, or-false}
+use mathlib.Core.Path.{_≡_, refl, sym}
+use mathlib.Core.List.{List, []}
+use mathlib.Core.Bool.{Bool, true, false, _||_, or-true, or-false}
 use native.Mathlib.Omega.{arith}
 use native.Mathlib.Numerals.{add-one}
 use borrow.Author.Tests.{eqb-true, eqb-false}
@@ -12,9 +12,9 @@ use Rattle.sections.specs.Search.{some}
 use Rattle.sections.specs.Order.{Keeps}
 use Rattle.records.specs.declared.rows.UnitRow.{UnitRow}
 use Rattle.records.specs.declared.rows.EnergyRow.{EnergyRow}
-use Rattle.parties.specs.Once.{has, joinNew, named, seen, newly}
+use Rattle.parties.specs.Once.{has, named, seen, newly}
 use Rattle.parties.specs.Parties.{energyAccount, unitAccount, accountsIn, Sorted}
-use Rattle.parties.proofs.Once.{seen-each, seen-none, has-named, length-named, named-turned}
+use Rattle.parties.proofs.Once.{seen-each, seen-none, has-named, length-join, length-named, named-turned}
 use Rattle.parties.proofs.Everyone.{accounts-few}
 
 -- the accounts of sorted rows keep their order
@@ -73,12 +73,8 @@ module _ (name : ℕ → ℕ) (l : List ℕ) where
 
   -- x is what record i adds
   pub count-more : (i : ℕ) {c x : ℕ} → c ≡ length (named name i l) → x ≡ newly (has (name i) (named name i l)) → c + x ≡ length (named name (i + 1) l)
-  unfolding named joinNew
-  count-more i p q = rw (add-one, p, q) (by (has (name i) (named name i l)))
-    where
-      by : (t : Bool) → length (named name i l) + newly t ≡ length (cond t (named name i l) (name i ∷ named name i l))
-      by true = omega arith
-      by false = omega arith
+  unfolding named
+  count-more i p q = rw (add-one, p, q) (sym (length-join (name i) (named name i l)))
 
   pub count-few : (i : ℕ) {c : ℕ} → c ≡ length (named name i l) → c ≤ i + length l
   count-few i e = rw e (length-named name i l)

@@ -104,7 +104,8 @@ length-named name (suc n) l = by (has (name n) (named name n l)) (length-named n
     by true h = omega arith
     by false h = omega arith
 
-length-join : (x : ℕ) (l : List ℕ) → length (joinNew x l) ≡ length l + newly (has x l)
+-- a name joined to a list makes it longer by one where it is new
+pub length-join : (x : ℕ) (l : List ℕ) → length (joinNew x l) ≡ length l + newly (has x l)
 unfolding joinNew
 length-join x l = by (has x l)
   where

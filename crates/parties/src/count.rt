@@ -4,9 +4,9 @@
 ghost use mathlib.Core.Path.{_≡_};
 ghost use mathlib.Core.List.{[]};
 ghost use Prim.Native.Nat.{_+_, _*_, _≤_, _<_};
-ghost use lib.ListN.{length, getD, set, replicate};
+ghost use lib.ListN.{length, getD, set};
 ghost use Rattle.records.specs.Rows.{energyRow, unitRow};
-ghost use Rattle.parties.specs.Chains.{markOf, Last, Chained};
+ghost use Rattle.parties.specs.Chains.{markOf, Chained};
 ghost use Rattle.parties.specs.Once.{has, named, seen, newly};
 ghost use Rattle.parties.specs.Parties.{energyAccount, unitAccount, accountsIn, Sorted};
 use ground::read;

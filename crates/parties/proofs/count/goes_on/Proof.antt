@@ -1,11 +1,12 @@
 -- `parties::count::goes_on` meets its contract. In rows in order, the row before tells whether an account was seen. Assumes nothing.
+use native.Mathlib.Omega.{arith}
 use borrow.Author.Needs.{needs}
 use Rattle.parties.proofs.Counting.{in-order, on-start, on-told}
 use Rattle.parties.proofs.count.goes_on.Statement.{statement}
 use Rattle.parties.proofs.count.goes_on.Tie as tie
 
 returns : tie.Need-returns
-returns c = on-start _ _ (c .if1 .taken)
+returns c = on-start _ _ (omega arith)
 
 sub-energy-account : tie.Need-sub-energy-account
 sub-energy-account c = search needs

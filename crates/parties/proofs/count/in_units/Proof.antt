@@ -37,7 +37,7 @@ unit-account-requires : tie.Need-unit-account-requires Inv-loop μ-loop
 unit-account-requires c κs = search needs
 
 returns : tie.Need-returns Inv-loop μ-loop
-returns c = walk-found _ _ _ (c .before .before .before .loop .inv) (c .before .before .loop-test .taken) refl (c .before .unit-account .ensures) (c .if1 .taken)
+returns c = walk-found _ _ _ (c .before .before .before .loop .inv) (omega arith) refl (c .before .unit-account .ensures) (c .if1 .taken)
 
 sub-p : tie.Need-sub-p Inv-loop μ-loop
 sub-p c = search needs
@@ -55,13 +55,13 @@ cast-p-2 c =
     omega (arith, c .before .before .before .before .before .before .before .before .pre .1 .links (p - 1) l .within)
 
 loop-less : tie.Need-loop-less Inv-loop μ-loop
-loop-less c = walk-less _ _ _ (c .before .before .before .before .before .before .before .before .pre .1) (c .before .before .before .before .loop .inv) (c .before .before .before .loop-test .taken) refl refl
+loop-less c = walk-less _ _ _ (c .before .before .before .before .before .before .before .before .pre .1) (c .before .before .before .before .loop .inv) (omega arith) refl refl
 
 loop-again : tie.Need-loop-again Inv-loop μ-loop
-loop-again c = walk-on _ _ _ (c .before .before .before .before .before .before .before .before .pre .1) (c .before .before .before .before .loop .inv) (c .before .before .before .loop-test .taken) refl (c .before .before .unit-account .ensures) (c .before .if1 .left) refl
+loop-again c = walk-on _ _ _ (c .before .before .before .before .before .before .before .before .pre .1) (c .before .before .before .before .loop .inv) (omega arith) refl (c .before .before .unit-account .ensures) (c .before .if1 .left) refl
 
 returns-2 : tie.Need-returns-2 Inv-loop μ-loop
-returns-2 c = walk-end _ _ _ (c .before .loop .inv) (c .loop-test .left)
+returns-2 c = walk-end _ _ _ (c .before .loop .inv) (omega arith)
 
 pub in-units-spec : {M : Type 1} → statement M
 in-units-spec =
