@@ -113,9 +113,11 @@ pub fn energies_hold(regions: &[u8], energy: &[u8], n: usize) -> bool
     ensures { λ b. ⌜ (b ≡ true → EnergiesHold (energyRow (now (energy .entry))) n (entryRow (now (regions .entry)))) ⌝ }
 {
     let p = sum_rows(energy, n);
+    if !p.holds {
+        return false;
+    }
     let t = p.totals;
-    p.holds
-        & entry_holds(regions, t, 0)
+    entry_holds(regions, t, 0)
         & entry_holds(regions, t, 1)
         & entry_holds(regions, t, 2)
         & entry_holds(regions, t, 3)
