@@ -1,6 +1,5 @@
 -- `quick::energies::energies_hold` meets its contract: the rows hold but for a limit, which their regions' entries give. Assumes nothing.
 use borrow.Author.Needs.{needs}
-use borrow.Author.Tests.{not-false}
 use Rattle.quick.proofs.EnergyTurns.{refused}
 use Rattle.quick.proofs.EnergyEnd.{energies-hold}
 use Rattle.quick.proofs.energies.energies_hold.Statement.{statement}
@@ -28,7 +27,7 @@ entry-holds-requires-5 : tie.Need-entry-holds-requires-5
 entry-holds-requires-5 c κs = search needs
 
 returns-2 : tie.Need-returns-2
-returns-2 c = energies-hold _ _ _ (c .before .before .before .before .before .before .before .before .sum-rows .ensures (not-false _ (c .before .before .before .before .before .before .if1 .left))) (c .before .before .before .before .entry-holds .ensures) (c .before .before .before .entry-holds2 .ensures) (c .before .before .entry-holds3 .ensures) (c .before .entry-holds4 .ensures) (c .entry-holds5 .ensures)
+returns-2 c = energies-hold _ _ _ (c .before .before .before .before .before .before .before .before .sum-rows .ensures) (c .before .before .before .before .before .before .if1 .left) (c .before .before .before .before .entry-holds .ensures) (c .before .before .before .entry-holds2 .ensures) (c .before .before .entry-holds3 .ensures) (c .before .entry-holds4 .ensures) (c .entry-holds5 .ensures)
 
 pub energies-hold-spec : {M : Type 1} → statement M
 energies-hold-spec =
