@@ -2,10 +2,9 @@
 // An energy is no larger than its region's sum, so that the limit of an entry is the limit of its rows too, and no row is held against it.
 ghost use mathlib.Core.Path.{_≡_};
 ghost use mathlib.Core.Bool.{true};
-ghost use Prim.Native.Nat.{ℕ, _+_, _*_, _≤_, _<_};
+ghost use Prim.Native.Nat.{_+_, _*_, _≤_, _<_};
 ghost use lib.ListN.{length, getD, set};
 ghost use Rattle.records.specs.Rows.{entryRow, energyRow};
-ghost use Rattle.totals.specs.declared.entries.Totals.{Totals};
 ghost use Rattle.quick.specs.Holds.{EnergiesHold};
 ghost use Rattle.quick.specs.Energies.{RowHolds, Room, Added, SummedIs, EntryHolds};
 use ground::read;
