@@ -75,9 +75,9 @@ module _ (energy : ℕ → EnergyRow) (n : ℕ) (entry : ℕ → Entry) where
           let b = eqb-true (entry g .asoe) (getD (t .asoe) g 0) (e .1 .0) in
           (omega (arith, k .ace), omega (arith, k .asoe))
 
-  -- the tests of the rows and of the five entries, joined
-  pub energies-hold : {t : Totals} {p b₀ b₁ b₂ b₃ b₄ : Bool} → (p ≡ true → SummedIs energy n t) → (b₀ ≡ true → EntryHolds (entry 0) t 0) → (b₁ ≡ true → EntryHolds (entry 1) t 1) → (b₂ ≡ true → EntryHolds (entry 2) t 2) → (b₃ ≡ true → EntryHolds (entry 3) t 3) → (b₄ ≡ true → EntryHolds (entry 4) t 4) → allOf (p ∷ b₀ ∷ b₁ ∷ b₂ ∷ b₃ ∷ b₄ ∷ []) ≡ true → EnergiesHold energy n entry
-  energies-hold {t} {p} {b₀} {b₁} {b₂} {b₃} {b₄} s h₀ h₁ h₂ h₃ h₄ e =
-      let k = every (p ∷ b₀ ∷ b₁ ∷ b₂ ∷ b₃ ∷ b₄ ∷ []) e in
-      holds (s (k .0))
-      (five (λ g. EntryHolds (entry g) t g) (h₀ (k .1 .0)) (h₁ (k .1 .1 .0)) (h₂ (k .1 .1 .1 .0)) (h₃ (k .1 .1 .1 .1 .0)) (h₄ (k .1 .1 .1 .1 .1 .0)))
+  -- all n rows were summed, and the tests of the five entries hold joined
+  pub energies-hold : {m : ℕ} {t : Totals} {b₀ b₁ b₂ b₃ b₄ : Bool} → SummedIs energy m t → m ≡ n → (b₀ ≡ true → EntryHolds (entry 0) t 0) → (b₁ ≡ true → EntryHolds (entry 1) t 1) → (b₂ ≡ true → EntryHolds (entry 2) t 2) → (b₃ ≡ true → EntryHolds (entry 3) t 3) → (b₄ ≡ true → EntryHolds (entry 4) t 4) → allOf (b₀ ∷ b₁ ∷ b₂ ∷ b₃ ∷ b₄ ∷ []) ≡ true → EnergiesHold energy n entry
+  energies-hold {m} {t} {b₀} {b₁} {b₂} {b₃} {b₄} s q h₀ h₁ h₂ h₃ h₄ e =
+      let k = every (b₀ ∷ b₁ ∷ b₂ ∷ b₃ ∷ b₄ ∷ []) e in
+      holds (rw q at s)
+      (five (λ g. EntryHolds (entry g) t g) (h₀ (k .0)) (h₁ (k .1 .0)) (h₂ (k .1 .1 .0)) (h₃ (k .1 .1 .1 .0)) (h₄ (k .1 .1 .1 .1 .0)))

@@ -6,8 +6,8 @@ use mathlib.Core.Logic.{⊎-elim}
 use native.Mathlib.Omega.{arith}
 use native.Mathlib.Nat.{eq-or-lt-of-le, eq-zero-or-pos, not-suc-le-zero}
 use borrow.Author.Tests.{lt-ltb, eq-eqb}
-use lib.Dec.{ltb, eqb}
-use lib.ListN.{getD, set, replicate}
+use lib.Dec.{ltb}
+use lib.ListN.{replicate}
 use Rattle.sections.specs.Order.{risesBy, pairBelow}
 use Rattle.sections.proofs.Order.{rises-first, rises-later}
 use Rattle.sections.proofs.Search.{lt-or-ge}

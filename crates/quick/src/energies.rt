@@ -2,10 +2,9 @@
 // An energy is no larger than its region's sum, so that the limit of an entry is the limit of its rows too, and no row is held against it.
 ghost use mathlib.Core.Path.{_≡_};
 ghost use mathlib.Core.Bool.{true};
-ghost use Prim.Native.Nat.{ℕ, _+_, _*_, _≤_, _<_};
+ghost use Prim.Native.Nat.{_+_, _*_, _≤_, _<_};
 ghost use lib.ListN.{length, getD, set};
 ghost use Rattle.records.specs.Rows.{entryRow, energyRow};
-ghost use Rattle.totals.specs.declared.entries.Totals.{Totals};
 ghost use Rattle.quick.specs.Holds.{EnergiesHold};
 ghost use Rattle.quick.specs.Energies.{RowHolds, Room, Added, SummedIs, EntryHolds};
 use ground::read;
@@ -14,9 +13,9 @@ use records::rows::EnergyRow;
 use totals::entries;
 use totals::entries::Totals;
 
-// Whether all rows hold, and the sums by region if they do.
+// How many rows hold before the first that does not, and their sums by region.
 pub struct Summed {
-    pub holds: bool,
+    pub rows: usize,
     pub totals: Totals,
 }
 
@@ -64,7 +63,7 @@ fn add_row(ace: &mut [u64; 5], asoe: &mut [u64; 5], residual: &mut [u64; 5], r: 
 // The n energy rows in order, up to the first that does not hold.
 fn sum_rows(energy: &[u8], n: usize) -> Summed
     requires { ⌜ (n * 24 ≤ length (now energy)) × (n ≤ 1024) ⌝ }
-    ensures { λ p. ⌜ (p .holds ≡ true → SummedIs (energyRow (now (energy .entry))) n (p .totals)) ⌝ }
+    ensures { λ s. ⌜ SummedIs (energyRow (now (energy .entry))) (s .rows) (s .totals) ⌝ }
 {
     let mut ace = [0u64; 5];
     let mut asoe = [0u64; 5];
@@ -76,7 +75,7 @@ fn sum_rows(energy: &[u8], n: usize) -> Summed
         let head = head_at(energy, i);
         if !row_holds(r, head, before) {
             return Summed {
-                holds: false,
+                rows: i,
                 totals: Totals {
                     ace,
                     asoe,
@@ -89,7 +88,7 @@ fn sum_rows(energy: &[u8], n: usize) -> Summed
         i += 1;
     }
     Summed {
-        holds: true,
+        rows: n,
         totals: Totals {
             ace,
             asoe,
@@ -112,10 +111,12 @@ pub fn energies_hold(regions: &[u8], energy: &[u8], n: usize) -> bool
     requires { ⌜ (60 ≤ length (now regions)) × ((n * 24 ≤ length (now energy)) × (n ≤ 1024)) ⌝ }
     ensures { λ b. ⌜ (b ≡ true → EnergiesHold (energyRow (now (energy .entry))) n (entryRow (now (regions .entry)))) ⌝ }
 {
-    let p = sum_rows(energy, n);
-    let t = p.totals;
-    p.holds
-        & entry_holds(regions, t, 0)
+    let s = sum_rows(energy, n);
+    if s.rows != n {
+        return false;
+    }
+    let t = s.totals;
+    entry_holds(regions, t, 0)
         & entry_holds(regions, t, 1)
         & entry_holds(regions, t, 2)
         & entry_holds(regions, t, 3)

@@ -1,11 +1,10 @@
 -- `quick::energies::sum_rows` meets its contract. The invariant, `Rows`: the rows so far hold, and each place has the sum of its region over them. The measure is what is left. Assumes nothing.
 use Prim.Native.Nat.{_≤_, _-_}
-use mathlib.Core.Bool.{true}
 use native.Mathlib.Omega.{arith}
 use borrow.Author.Needs.{needs}
 use borrow.Author.Tests.{not-false}
 use Rattle.records.specs.Rows.{energyRow}
-use Rattle.quick.proofs.EnergyTurns.{refused, Rows, rows-none, rows-more, rows-room, rows-all}
+use Rattle.quick.proofs.EnergyTurns.{Rows, rows-none, rows-more, rows-room, rows-all}
 use Rattle.quick.proofs.energies.sum_rows.Statement.{statement}
 use Rattle.quick.proofs.energies.sum_rows.Tie as tie
 
@@ -28,7 +27,7 @@ row-holds-requires : tie.Need-row-holds-requires Inv-loop μ-loop
 row-holds-requires c κs = rw (c .before .energy-row .ensures) (c .head-at .ensures)
 
 returns : tie.Need-returns Inv-loop μ-loop
-returns c = refused
+returns c = c .before .before .before .before .before .loop .inv .1 .held
 
 cast-add-row : tie.Need-cast-add-row Inv-loop μ-loop
 cast-add-row c = search needs
@@ -51,7 +50,7 @@ loop-again c =
     (search needs, rows-more _ _ (c .before .before .before .before .before .before .before .before .before .before .loop .inv .1) (c .before .before .before .before .before .before .before .before .energy-row .ensures) (rw (c .before .before .before .before .before .before .before .before .energy-row .ensures) (c .before .before .before .before .before .before .before .head-at .ensures)) (c .before .before .before .before .before .before .row-holds .ensures (not-false _ (c .before .before .before .before .before .if1 .left))) (c .before .add-row .ensures) (c .key-of .ensures))
 
 returns-2 : tie.Need-returns-2 Inv-loop μ-loop
-returns-2 c = λ _. rows-all _ _ _ (c .before .loop .inv .1) (c .before .loop .inv .0) (omega arith)
+returns-2 c = rows-all _ _ _ (c .before .loop .inv .1) (c .before .loop .inv .0) (omega arith)
 
 pub sum-rows-spec : {M : Type 1} → statement M
 sum-rows-spec =
