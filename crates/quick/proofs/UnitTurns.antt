@@ -3,7 +3,6 @@ use Prim.Native.Nat.{ℕ, zero, suc, _+_, _-_, _*_, _≤_, _<_}
 use mathlib.Core.List.{List, [], _∷_}
 use mathlib.Core.Path.{_≡_, refl, sym, ap, _∙_}
 use mathlib.Core.Bool.{Bool, true, false, cond, not, _&&_, _||_}
-use mathlib.Core.Logic.{⊎-elim}
 use borrow.Author.Tests.{leb-true, eqb-true, ltb-true, lt-ltb, eq-eqb, not-false}
 use borrow.Author.Count.{below-more}
 use lib.Dec.{eqb, leb, ltb}
@@ -14,7 +13,7 @@ use Rattle.ground.specs.Sizes.{sizeOf, plusOf, minusOf}
 use Rattle.ground.proofs.Every.{every}
 use Rattle.sections.specs.Order.{risesBy, pairBelow}
 use Rattle.sections.specs.Walk.{Under}
-use Rattle.sections.specs.Total.{total, keyed}
+use Rattle.sections.specs.Total.{keyed}
 use Rattle.sections.proofs.Order.{rises-first, rises-later}
 use Rattle.sections.proofs.Total.{total-zero, total-bound, keyed-miss, keyed-le}
 use Rattle.sections.proofs.Walk.{sum-more}

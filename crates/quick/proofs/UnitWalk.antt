@@ -1,15 +1,14 @@
 -- The walk over the constraints, run after run: what is known of the rows taken so far stays true, and at the end all rows are taken.
 -- Assumes nothing.
 use Prim.Native.Nat.{ℕ, zero, suc, _+_, _≤_, _<_}
-use mathlib.Core.List.{[], _∷_}
-use mathlib.Core.Path.{_≡_, refl, sym, ap, _∙_}
+use mathlib.Core.Path.{_≡_, refl, sym}
 use mathlib.Core.Bool.{Bool, true, false, not, _&&_, _||_}
 use mathlib.Core.Logic.{⊎-elim}
 use borrow.Author.Tests.{le-leb, eq-eqb, ne-eqb}
 use borrow.Author.Count.{below-none, below-more}
-use lib.Dec.{eqb, leb}
+use lib.Dec.{eqb}
 use native.Mathlib.Omega.{arith}
-use native.Mathlib.Nat.{le-refl, le-trans, not-suc-le-zero, eq-or-lt-of-le, le-of-suc-le-suc}
+use native.Mathlib.Nat.{not-suc-le-zero, eq-or-lt-of-le, le-of-suc-le-suc}
 use Rattle.ground.proofs.Every.{all}
 use Rattle.sections.specs.Order.{risesBy, Rises}
 use Rattle.sections.specs.Search.{some}
@@ -25,7 +24,7 @@ use Rattle.factors.specs.Factors.{sumsOk, sumOver, factorsAt}
 use Rattle.factors.specs.declared.sums.Sums.{Sums}
 use Rattle.factors.proofs.Runs.{none-is}
 use Rattle.quick.specs.Holds.{UnitsHold}
-use Rattle.quick.specs.Units.{Followed, Taken, Settled}
+use Rattle.quick.specs.Units.{Taken, Settled}
 
 -- one of the numbers is at most their sum
 total-part : (f : ℕ → ℕ) (n i : ℕ) → i < n → f i ≤ total f n

@@ -7,7 +7,6 @@ use Rattle.sections.specs.Order.{risesBy}
 use Rattle.records.specs.Rules.{unitBelow}
 use Rattle.records.specs.declared.rows.Constraint.{Constraint}
 use Rattle.records.specs.declared.rows.UnitRow.{UnitRow}
-use Rattle.factors.specs.Naming.{keyOf}
 use Rattle.factors.specs.Factors.{sumsOk, sumOver}
 use Rattle.factors.specs.declared.sums.Sums.{Sums}
 

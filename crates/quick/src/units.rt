@@ -33,6 +33,7 @@ fn more(sum: u64, by: u32) -> u64
     sum + (by as u64)
 }
 
+// The sums with one row more.
 fn take(t: Sums, r: UnitRow) -> Sums
     requires { ⌜ (t .next ≤ 600) × ((t .plus ≤ 3000000000000) × ((t .minus ≤ 3000000000000) × (t .dcf ≤ 3000000000000))) ⌝ }
     ensures { λ x. ⌜ Added t r x ⌝ }
@@ -87,7 +88,7 @@ fn settles(r: Constraint, t: Sums, from: usize) -> bool
     (1 <= r.id) & ((r.mode != 0) | (t.next == from)) & sums::sums_ok(r, t)
 }
 
-// Whether the unit rows and the constraints keep checks 5 to 8. Where it answers false, one of them may still keep all.
+// Whether unit rows and constraints keep these checks. The answer false says nothing: the checks are then run one by one.
 pub fn units_hold(cons: &[u8], n: usize, units: &[u8], m: usize) -> bool
     requires { ⌜ (n * 40 ≤ length (now cons)) × ((m * 20 ≤ length (now units)) × (m ≤ 600)) ⌝ }
     requires { ⌜ Rises (idOf (constraintRow (now cons))) n ⌝ }
