@@ -11,6 +11,7 @@ use lib.Dec.{ltb}
 use lib.IntN.{pos, negsuc, negℤ, natAbs, _+ℤ_, +ℤ-assoc}
 use Rattle.ground.specs.Round.{roundN}
 use Rattle.ground.specs.Sign.{less}
+use Rattle.ground.proofs.Sizes.{less-size}
 use Rattle.ground.proofs.Rounding.{half-above, half-below, round-zero}
 use Rattle.sections.specs.Total.{total}
 use Rattle.parties.specs.Within.{Within}
@@ -18,14 +19,6 @@ use Rattle.parties.specs.Within.{Within}
 -- ---- distances
 
 -- what an amount and what is credited and charged make, by its size
-less-size : (a b n : ℕ) → 2 * a ≤ 2 * b + n → 2 * b ≤ 2 * a + n → 2 * natAbs (less a b) ≤ n
-less-size a zero n h k = omega arith
-less-size a (suc b) n h k = by (ltb a (suc b)) refl
-  where
-    by : (t : Bool) → ltb a (suc b) ≡ t → 2 * natAbs (cond t (negsuc (suc b - suc a)) (pos (a - suc b))) ≤ n
-    by true e = omega (arith, ltb-true a (suc b) e)
-    by false e = omega (arith, ltb-false a (suc b) e)
-
 pub size-within : (x c d n : ℕ) → Within n (x + c) d → 2 * natAbs (pos x +ℤ less c d) ≤ n
 size-within x c d n w = rw (← +ℤ-assoc (pos x) (pos c) (negℤ (pos d))) (less-size (x + c) d n (omega (arith, w .down)) (omega (arith, w .up)))
 

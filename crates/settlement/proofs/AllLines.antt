@@ -2,7 +2,6 @@
 -- contracts start. Assumes nothing.
 use Prim.Native.Nat.{ℕ, _+_, _≤_, _<_}
 use mathlib.Core.Path.{_≡_, refl, sym, ap, _∙_}
-use mathlib.Core.Bool.{Bool}
 use mathlib.Core.List.{List, _++_}
 use lib.ListN.{length, length-append}
 use native.Mathlib.Omega.{arith}
@@ -16,7 +15,6 @@ use Rattle.amounts.specs.declared.own.Own.{Own}
 use Rattle.accounts.specs.Rows.{joined}
 use Rattle.statement.specs.declared.Line.{Line}
 use Rattle.lines.specs.Emitted.{Emitted, Room}
-use Rattle.lines.specs.declared.emit.Tally.{Tally}
 use Rattle.lines.proofs.Emission.{emitted-more, room-less, room-rest}
 use Rattle.settlement.specs.Walks.{conLinesAt, contractLinesAt, bookLines, Ready, Payable, Walkable}
 
@@ -44,13 +42,13 @@ module _ (b : List ℕ) (h : Header) (account : ℕ) (own : Own) where
     first-of : (x y : ℕ) {z : ℕ} → x + y ≡ z → x ≤ z
     first-of x y q = omega arith
 
-    module _ {l : List ℕ} {w : Bool} {t : Tally} where
-      pub first-room : Room l w t (length (bookLines (bookIn b h) account own)) → Room l w t (length (conPart u))
+    module _ {l : List ℕ} {t : ℕ} where
+      pub first-room : Room l t (length (bookLines (bookIn b h) account own)) → Room l t (length (conPart u))
       first-room r = room-less _ _ (first-of _ _ count) r
 
-      module _ {a : List ℕ} {x : Tally} (c : Emitted l w t (conPart u) a x) where
-        pub second-room : Room l w t (length (bookLines (bookIn b h) account own)) → Room a w x (length (paidPart k))
+      module _ {a : List ℕ} {x : ℕ} (c : Emitted l t (conPart u) a x) where
+        pub second-room : Room l t (length (bookLines (bookIn b h) account own)) → Room a x (length (paidPart k))
         second-room r = room-rest (conPart u) _ (rw (← count) at r) c
 
-        pub both-out : {d : List ℕ} {y : Tally} → Emitted a w x (paidPart k) d y → Emitted l w t (bookLines (bookIn b h) account own) d y
+        pub both-out : {d : List ℕ} {y : ℕ} → Emitted a x (paidPart k) d y → Emitted l t (bookLines (bookIn b h) account own) d y
         both-out g = rw parts (emitted-more (conPart u) (paidPart k) c g)

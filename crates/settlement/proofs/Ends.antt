@@ -4,10 +4,11 @@ use mathlib.Core.Path.{_≡_, refl, sym, ap, subst, _∙_}
 use Rattle.records.specs.declared.rows.Entry.{Entry}
 use mathlib.Core.Bool.{Bool, true, false, not, _&&_}
 use mathlib.Core.List.{List}
-use lib.Dec.{eqb}
+use borrow.Author.Tests.{ltb-true, ltb-false, le-ltb}
+use lib.Dec.{eqb, ltb}
 use lib.ListN.{length, length-append}
 use native.Mathlib.Omega.{arith}
-use Rattle.ground.specs.Put.{put}
+use Rattle.ground.specs.Put.{Wrote}
 use Rattle.ground.specs.Bytes.{partFrom}
 use Rattle.sections.specs.declared.Verdict.{Verdict}
 use Rattle.sections.specs.declared.Verdict.the-variants.{Accepted, Refused}
@@ -26,84 +27,108 @@ use Rattle.accounts.specs.Account.{publicOf, rowsOfAccount, ownEnergy, unknown}
 use Rattle.accounts.specs.Held.{HeldIs}
 use Rattle.accounts.specs.declared.Held.{Held}
 use Rattle.accounts.proofs.Own.{own-within, held-own, held-unknown}
-use Rattle.statement.specs.Statement.{statementBytes}
 use Rattle.statement.specs.Lent.{Lent}
 use Rattle.statement.specs.declared.Written.{Written}
 use Rattle.statement.specs.declared.Written.the-variants.{Length}
 use Rattle.statement.specs.declared.Written.the-variants as written
 use Rattle.statement.proofs.Lent.{lent-refused}
-use Rattle.lines.specs.Emitted.{anyOver, Emitted}
-use Rattle.lines.specs.declared.emit.Tally.{Tally}
+use Rattle.statement.proofs.Lines.{statement-length}
+use Rattle.lines.specs.Limit.{anyOver}
 use Rattle.settlement.specs.Settle.{linesOf, headingOf, statementOf, settled, ifAccepted, outcome}
-use Rattle.settlement.specs.Walks.{conLinesAt, contractLinesAt, bookLines, Walkable, Owned}
-use Rattle.settlement.proofs.Whole.{start, settled-unknown, settled-over, lent-short, lent-written}
+use Rattle.settlement.specs.Walks.{conLinesAt, contractLinesAt, bookLines, wholeOf, Fits, Owned}
+use Rattle.settlement.specs.Counts.{BookCounted}
+use Rattle.settlement.specs.Limits.{bookOver}
+use Rattle.settlement.proofs.Whole.{settled-unknown, settled-over, lent-short, lent-written}
+use Rattle.settlement.proofs.UnderLimit.{over-is}
 use Rattle.settlement.proofs.Link.{lines-link}
 use Rattle.settlement.proofs.Given.{ready-of, payable-of}
 use Rattle.settlement.proofs.LineCount.{few-lines, few-pays}
 
--- ---- once the lines are counted; x is their tally, and a the buffer, which counting leaves
+-- ---- the tests that come before the first byte is written
 
-module _ (B : Book) (account : ℕ) (own : Own) (o : Owned B account own) {l a : List ℕ} {x : Tally} (e : Emitted l false start (bookLines B account own) a x) where
-  pub same-buffer : a ≡ l
-  same-buffer = e .bytes
+module _ (B : Book) (account : ℕ) (own : Own) (p : Promise B) (o : Owned B account own) (l : List ℕ) {over : Bool} (e : over ≡ bookOver B) where
+  over-told : over ≡ anyOver (linesOf (publicOf B) (rowsOfAccount B account))
+  over-told = e ∙ over-is B p own (o .walk) account ∙ ap anyOver (sym (o .lines))
 
-  pub counted : x .lines ≡ length (bookLines B account own)
-  counted = omega (arith, e .lines)
+  count-is : length (bookLines B account own) ≡ length (linesOf (publicOf B) (rowsOfAccount B account))
+  count-is = ap length (sym (o .lines))
 
-  pub counted-few : x .lines ≤ 2152
-  counted-few = omega (arith, counted, o .few)
+  pub end-12 : over ≡ true → Lent (settled account (publicOf B) (rowsOfAccount B account)) l (written.Refused 12 0) l
+  end-12 t = lent-refused 12 0 _ l (settled-over account (publicOf B) (rowsOfAccount B account) (o .known) (sym over-told ∙ t))
 
-  over-is : x .over ≡ anyOver (linesOf (publicOf B) (rowsOfAccount B account))
-  over-is = e .over ∙ ap anyOver (sym (o .lines))
+  module _ (t : over ≡ false) {short : Bool} (s : (own : Own) → short ≡ ltb (length l) (24 + length (bookLines B account own) * 24)) where
+    pub end-13 : short ≡ true → Lent (settled account (publicOf B) (rowsOfAccount B account)) l (written.Refused 13 0) l
+    end-13 q =
+        lent-short account (publicOf B) (rowsOfAccount B account) (o .known) (sym over-told ∙ t) l (length (bookLines B account own)) count-is
+        (ltb-true _ _ (sym (s own) ∙ q))
 
-  count-is : x .lines ≡ length (linesOf (publicOf B) (rowsOfAccount B account))
-  count-is = counted ∙ ap length (sym (o .lines))
+    pub fits-in : short ≡ false → Fits (bookLines B account own) (length l)
+    fits-in q = record { few = o .few; room = ltb-false _ _ (sym (s own) ∙ q) }
 
-  pub end-12 : x .over ≡ true → Lent (settled account (publicOf B) (rowsOfAccount B account)) l (written.Refused 12 0) a
-  end-12 t = rw same-buffer (lent-refused 12 0 _ l (settled-over account (publicOf B) (rowsOfAccount B account) (o .known) (sym over-is ∙ t)))
+    pub end-written : {b : List ℕ} {n : ℕ} → short ≡ false → Wrote l 0 (wholeOf account B own) b n → Lent (settled account (publicOf B) (rowsOfAccount B account)) l (Length n) b
+    unfolding statementOf wholeOf
+    end-written {b} {n} q w =
+        let end : n ≡ 24 + length (bookLines B account own) * 24 = omega (arith, w .next, statement-length (headingOf account (publicOf B) (length (bookLines B account own))) (bookLines B account own)) in
+        rw end
+        (lent-written account (publicOf B) (rowsOfAccount B account) (o .known) (sym over-told ∙ t) l (length (bookLines B account own)) count-is (fits-in q .room)
+        (rw (sym (o .lines)) at (w .bytes)))
 
-  pub end-13 : x .over ≡ false → length a < 24 + x .lines * 24 → Lent (settled account (publicOf B) (rowsOfAccount B account)) l (written.Refused 13 0) a
-  end-13 t h =
-      rw same-buffer (lent-short account (publicOf B) (rowsOfAccount B account) (o .known) (sym over-is ∙ t) l (x .lines) count-is (rw same-buffer at h))
+-- ---- how many lines there are
 
-  pub end-written : {b : List ℕ} → x .over ≡ false → 24 + x .lines * 24 ≤ length a → b ≡ put a 0 (statementBytes (headingOf account (publicOf B) (x .lines)) (bookLines B account own)) → Lent (settled account (publicOf B) (rowsOfAccount B account)) l (Length (24 + x .lines * 24)) b
-  unfolding statementOf
-  end-written t h q =
-      lent-written account (publicOf B) (rowsOfAccount B account) (o .known) (sym over-is ∙ t) l (x .lines) count-is (rw same-buffer at h)
-      (rw (same-buffer, count-is, sym (o .lines)) at q)
-
--- ---- once the account's own rows are read
-
-module _ (B : Book) (account : ℕ) (p : Promise B) {held : Held} {named : Bool} (f : HeldIs (B .energy) (B .header .energies) account held) (u : named ≡ not (none (keep (λ r. eqb (r .account) account) (rowsOf (B .unit) (B .header .units))))) where
-  pub end-11 : (l : List ℕ) → (not named && not (held .any)) ≡ true → Lent (settled account (publicOf B) (rowsOfAccount B account)) l (written.Refused 11 0) l
-  end-11 l t = lent-refused 11 0 _ l (settled-unknown account (publicOf B) (rowsOfAccount B account) (sym (held-unknown B f u) ∙ t))
-
-  few : length (bookLines B account (held .own)) ≤ 2152
+module _ (B : Book) (account : ℕ) (p : Promise B) where
+  pub few-of : (own : Own) → length (bookLines B account own) ≤ 2152
   unfolding bookLines
-  few =
-      let c = joined (conLinesAt (B .entry) (B .constraint) (B .unit) (B .header .units) account (held .own)) (B .header .constraints) in
-      let k = joined (contractLinesAt (B .entry) (ownEntry (held .own)) (B .contract)) (B .header .contracts) in
+  few-of own =
+      let c = joined (conLinesAt (B .entry) (B .constraint) (B .unit) (B .header .units) account own) (B .header .constraints) in
+      let k = joined (contractLinesAt (B .entry) (ownEntry own) (B .contract)) (B .header .contracts) in
       let m = p .few in
       omega (
         arith,
         length-append c k,
-        few-lines (B .entry) (B .constraint) (B .header .constraints) (B .unit) (B .header .units) account (held .own) (p .ordered .constraints),
-        few-pays (B .entry) (ownEntry (held .own)) (B .contract) (B .header .contracts),
+        few-lines (B .entry) (B .constraint) (B .header .constraints) (B .unit) (B .header .units) account own (p .ordered .constraints),
+        few-pays (B .entry) (ownEntry own) (B .contract) (B .header .contracts),
         m .constraints,
         m .units,
         m .contracts,
       )
 
-  pub owned-of : (not named && not (held .any)) ≡ false → Owned B account (held .own)
-  owned-of t =
+  -- with room for 2,152 lines there is room
+  pub room-for-all : {room : ℕ} → 51672 ≤ room → (own : Own) → false ≡ ltb room (24 + length (bookLines B account own) * 24)
+  room-for-all {room} h own = sym (le-ltb room (24 + length (bookLines B account own) * 24) (omega (arith, few-of own)))
+
+  pub short-counted : (room : ℕ) {x : ℕ} → BookCounted B account x → (own : Own) → ltb room (24 + x * 24) ≡ ltb room (24 + length (bookLines B account own) * 24)
+  short-counted room c own = ap (λ (n : ℕ). ltb room (24 + n * 24)) (c .lines own)
+
+-- ---- once the account's own rows are read
+
+module _ (B : Book) (account : ℕ) (p : Promise B) {held : Held} (f : HeldIs (B .energy) (B .header .energies) account held) where
+  pub own-of : unknown (rowsOfAccount B account) ≡ false → Owned B account (held .own)
+  own-of k =
       let same = held-own B f in
       let w : (g : ℕ) → g < 5 → Within (B .entry g) (ownEntry (held .own) g .ace) (ownEntry (held .own) g .asoe) (ownEntry (held .own) g .residual) = λ g h. subst (λ (z : Entry). Within (B .entry g) (z .ace) (z .asoe) (z .residual)) (sym (same g h)) (own-within p account g h) in
       record {
-        known = sym (held-unknown B f u) ∙ t;
+        known = k;
         lines = lines-link B account (held .own) same;
-        few = few;
+        few = few-of B account p (held .own);
         walk = record { ready = ready-of B p (held .own) w; payable = payable-of B p (held .own) w };
       }
+
+  -- an energy row names it
+  pub owned-held : held .any ≡ true → Owned B account (held .own)
+  owned-held t = own-of (sym (held-unknown B f refl) ∙ rw t (last-false (not (not (none (keep (λ r. eqb (r .account) account) (rowsOf (B .unit) (B .header .units))))))))
+    where
+      last-false : (a : Bool) → (a && false) ≡ false
+      last-false true = refl
+      last-false false = refl
+
+  module _ {named : Bool} (u : named ≡ not (none (keep (λ r. eqb (r .account) account) (rowsOf (B .unit) (B .header .units))))) (t : held .any ≡ false) where
+    -- a unit row does
+    pub owned-named : not named ≡ false → Owned B account (held .own)
+    owned-named n = own-of (sym (held-unknown B f u) ∙ rw n)
+
+    -- no row does
+    pub end-11 : (l : List ℕ) → not named ≡ true → Lent (settled account (publicOf B) (rowsOfAccount B account)) l (written.Refused 11 0) l
+    end-11 l n = lent-refused 11 0 _ l (settled-unknown account (publicOf B) (rowsOfAccount B account) (sym (held-unknown B f u) ∙ rw (n, t)))
 
 -- ---- the book's verdict
 

@@ -22,6 +22,7 @@ use Rattle.amounts.specs.Own.{ownEntry}
 use Rattle.amounts.specs.declared.own.Own.{Own}
 use Rattle.lines.specs.Lines.{Shared}
 use Rattle.settlement.specs.Walks.{Ready, Payable}
+use Rattle.settlement.specs.Counts.{Countable}
 
 -- ---- order
 
@@ -68,6 +69,17 @@ module _ (B : Book) (h : Promise B) where
       let same = rises-once (idOf (B .constraint)) (B .header .constraints) (h .ordered .constraints) (o .place) j (o .within) l (o .same ∙ e) in
       o .live (ap (λ i. B .constraint i .mode) same ∙ z)
 
+  -- all that counting an account's lines rests on
+  pub countable-of : Countable (B .constraint) (B .header .constraints) (B .unit) (B .header .units)
+  countable-of =
+      record {
+        few = h .few .constraints;
+        walked = record { few = h .few .units; rules = h .fields .units; keep = record { keep = h .ordered .units .first } };
+        rise = h .ordered .constraints;
+        names = names-of (B .constraint) (B .header .constraints) (B .unit) (B .header .units) (h .owner);
+        bare = bare-of;
+      }
+
   module _ (own : Own) (own-within : (g : ℕ) → g < 5 → Within (B .entry g) (ownEntry own g .ace) (ownEntry own g .asoe) (ownEntry own g .residual)) where
     -- the account's energy over a constraint's regions is part of a total that is not 0
     pub shared-of : (j : ℕ) → j < B .header .constraints → Shared (divisorOf (ownEntry own) (B .constraint j)) (divisorOf (B .entry) (B .constraint j))
@@ -83,9 +95,9 @@ module _ (B : Book) (h : Promise B) where
     ready-of =
         record {
           rules = h .fields .constraints;
-          walked = record { few = h .few .units; rules = h .fields .units; keep = record { keep = h .ordered .units .first } };
-          rise = h .ordered .constraints;
-          names = names-of (B .constraint) (B .header .constraints) (B .unit) (B .header .units) (h .owner);
+          walked = countable-of .walked;
+          rise = countable-of .rise;
+          names = countable-of .names;
           bare = bare-of;
           entries = h .fields .entries;
           energy = λ g b. within-rule (B .entry g) (ownEntry own g) (own-within g b) (h .fields .entries g b);

@@ -1,7 +1,6 @@
 -- Loops that emit what each record gives, one after the other; and what each constraint and each contract rests on. Assumes nothing.
 use Prim.Native.Nat.{ℕ, _+_, _≤_, _<_}
 use mathlib.Core.Path.{_≡_, refl, sym, ap, _∙_}
-use mathlib.Core.Bool.{Bool}
 use mathlib.Core.List.{List, [], _∷_}
 use borrow.Author.Tests.{eq-eqb, ne-eqb}
 use lib.ListN.{length, getD}
@@ -23,7 +22,6 @@ use Rattle.accounts.proofs.Joined.{joined-none, joined-more, joined-all, joined
 use Rattle.statement.specs.declared.Line.{Line}
 use Rattle.lines.specs.Lines.{Shared, aceLine, asoeLine}
 use Rattle.lines.specs.Emitted.{Emitted, Room}
-use Rattle.lines.specs.declared.emit.Tally.{Tally}
 use Rattle.lines.proofs.Emission.{emitted-none, emitted-more, room-less, room-rest}
 use Rattle.settlement.specs.Settle.{regionLines}
 use Rattle.settlement.specs.Walks.{conLines, Settles, LinesDone, conLinesAt, Ready, contractLinesAt}
@@ -31,18 +29,18 @@ use Rattle.settlement.specs.declared.units.Cursor.{Cursor}
 
 -- ---- any records
 
-module _ (f : ℕ → List Line) {l : List ℕ} {w : Bool} {t : Tally} where
-  pub out-start : Emitted l w t (joined f 0) l t
-  out-start = rw (joined-none f) (emitted-none l w t)
+module _ (f : ℕ → List Line) {l : List ℕ} {t : ℕ} where
+  pub out-start : Emitted l t (joined f 0) l t
+  out-start = rw (joined-none f) (emitted-none l t)
 
-  module _ (i : ℕ) {b : List ℕ} {x : Tally} (h : Emitted l w t (joined f i) b x) where
-    pub out-room : (n : ℕ) → i < n → Room l w t (length (joined f n)) → Room b w x (length (f i))
+  module _ (i : ℕ) {b : List ℕ} {x : ℕ} (h : Emitted l t (joined f i) b x) where
+    pub out-room : (n : ℕ) → i < n → Room l t (length (joined f n)) → Room b x (length (f i))
     out-room n j o = room-rest (joined f i) _ (room-less _ _ (joined-room f i n j) o) h
 
-    pub out-more : {a : List ℕ} {y : Tally} → Emitted b w x (f i) a y → Emitted l w t (joined f (i + 1)) a y
+    pub out-more : {a : List ℕ} {y : ℕ} → Emitted b x (f i) a y → Emitted l t (joined f (i + 1)) a y
     out-more g = rw (← joined-more f i) (emitted-more (joined f i) (f i) h g)
 
-    pub out-all : (n : ℕ) → i ≤ n → n ≤ i → Emitted l w t (joined f n) b x
+    pub out-all : (n : ℕ) → i ≤ n → n ≤ i → Emitted l t (joined f n) b x
     out-all n p q = rw (← joined-all f i n p q) h
 
 -- ---- constraints; r is constraint j, and total what it divides by
@@ -61,35 +59,35 @@ module _ (entry : ℕ → Entry) (con : ℕ → Constraint) (n : ℕ) (unit : �
   unfolding conLinesAt
   lines-at = rw (d, e)
 
-  pub con-room : {l : List ℕ} {w : Bool} {t : Tally} → Room l w t (length (conLinesAt entry con unit m account own j)) → Room l w t (length (conLines unit m account r (divisorOf (ownEntry own) r) total))
+  pub con-room : {l : List ℕ} {t : ℕ} → Room l t (length (conLinesAt entry con unit m account own j)) → Room l t (length (conLines unit m account r (divisorOf (ownEntry own) r) total))
   con-room h = rw lines-at h
 
-  pub con-out : {l : List ℕ} {w : Bool} {t : Tally} {b : List ℕ} {x : Cursor} → LinesDone unit m r (conLines unit m account r (divisorOf (ownEntry own) r) total) l w t b x → Emitted l w t (conLinesAt entry con unit m account own j) b (x .tally)
+  pub con-out : {l : List ℕ} {t : ℕ} {b : List ℕ} {x : Cursor} → LinesDone unit m r (conLines unit m account r (divisorOf (ownEntry own) r) total) l t b x → Emitted l t (conLinesAt entry con unit m account own j) b (x .place)
   con-out h = rw lines-at at (h .out)
 
 -- ---- a contract's region
 
-module _ (entry own : ℕ → Entry) (k : Contract) (g : ℕ) {l : List ℕ} {w : Bool} {t : Tally} where
-  pub region-none : factorOf (k .factors) g ≡ 0 → Emitted l w t (regionLines entry own k g) l t
+module _ (entry own : ℕ → Entry) (k : Contract) (g : ℕ) {l : List ℕ} {t : ℕ} where
+  pub region-none : factorOf (k .factors) g ≡ 0 → Emitted l t (regionLines entry own k g) l t
   unfolding regionLines
-  region-none e = rw (eq-eqb _ _ e) (emitted-none l w t)
+  region-none e = rw (eq-eqb _ _ e) (emitted-none l t)
 
   module _ (d : factorOf (k .factors) g ≡ 0 → ⊥) where
-    pub region-room : Room l w t (length (regionLines entry own k g)) → Room l w t 2
+    pub region-room : Room l t (length (regionLines entry own k g)) → Room l t 2
     unfolding regionLines
     region-room h = rw (ne-eqb _ _ d) at h
 
-    pub region-out : {x : Halves} {e : Entry} {a s : Line} {b : List ℕ} {y : Tally} → x ≡ halvesOf (k .payment) (factorOf (k .factors) g) → e ≡ entry g → a ≡ aceLine (k .id) g x (own g .ace) (e .ace) → s ≡ asoeLine (k .id) g x (own g .asoe) (e .asoe) → Emitted l w t (a ∷ s ∷ []) b y → Emitted l w t (regionLines entry own k g) b y
+    pub region-out : {x : Halves} {e : Entry} {a s : Line} {b : List ℕ} {y : ℕ} → x ≡ halvesOf (k .payment) (factorOf (k .factors) g) → e ≡ entry g → a ≡ aceLine (k .id) g x (own g .ace) (e .ace) → s ≡ asoeLine (k .id) g x (own g .asoe) (e .asoe) → Emitted l t (a ∷ s ∷ []) b y → Emitted l t (regionLines entry own k g) b y
     unfolding regionLines
     region-out p q r s h = rw (ne-eqb _ _ d) (rw (r, s, p, q) at h)
 
 -- ---- contract i
 
-module _ (entry own : ℕ → Entry) (contract : ℕ → Contract) (i : ℕ) {k : Contract} (e : k ≡ contract i) {l : List ℕ} {w : Bool} {t : Tally} where
-  pub contract-room : Room l w t (length (contractLinesAt entry own contract i)) → Room l w t (length (joined (regionLines entry own k) 5))
+module _ (entry own : ℕ → Entry) (contract : ℕ → Contract) (i : ℕ) {k : Contract} (e : k ≡ contract i) {l : List ℕ} {t : ℕ} where
+  pub contract-room : Room l t (length (contractLinesAt entry own contract i)) → Room l t (length (joined (regionLines entry own k) 5))
   unfolding contractLinesAt
   contract-room h = rw e h
 
-  pub contract-out : {b : List ℕ} {y : Tally} → Emitted l w t (joined (regionLines entry own k) 5) b y → Emitted l w t (contractLinesAt entry own contract i) b y
+  pub contract-out : {b : List ℕ} {y : ℕ} → Emitted l t (joined (regionLines entry own k) 5) b y → Emitted l t (contractLinesAt entry own contract i) b y
   unfolding contractLinesAt
   contract-out h = rw e at h

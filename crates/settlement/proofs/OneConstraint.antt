@@ -1,7 +1,6 @@
 -- The lines of one constraint: one line in mode 0, else those of its unit rows and of its residual. Assumes nothing.
 use Prim.Native.Nat.{ℕ, _+_, _≤_, _<_}
 use mathlib.Core.Path.{_≡_, refl, sym, ap, _∙_}
-use mathlib.Core.Bool.{Bool}
 use mathlib.Core.List.{List, [], _∷_, _++_}
 use borrow.Author.Tests.{eq-eqb, ne-eqb}
 use lib.ListN.{length, length-append}
@@ -18,7 +17,6 @@ use Rattle.accounts.specs.Rows.{joined}
 use Rattle.statement.specs.declared.Line.{Line}
 use Rattle.lines.specs.Lines.{contingencyLine, restLines}
 use Rattle.lines.specs.Emitted.{Emitted, Room}
-use Rattle.lines.specs.declared.emit.Tally.{Tally}
 use Rattle.lines.proofs.Emission.{emitted-more, room-less, room-rest}
 use Rattle.settlement.specs.Walks.{unitLinesAt, UnitsDone, conLines, LinesDone}
 use Rattle.settlement.specs.declared.units.Cursor.{Cursor}
@@ -35,14 +33,14 @@ no-rows key m k u s none =
     strict : (a b : ℕ) → b ≤ a → (a ≡ b → ⊥) → b < a
     strict a b h d = omega arith
 
-module _ (unit : ℕ → UnitRow) (m account : ℕ) (r : Constraint) (o total : ℕ) {l : List ℕ} {w : Bool} {t : Tally} where
+module _ (unit : ℕ → UnitRow) (m account : ℕ) (r : Constraint) (o total : ℕ) {l : List ℕ} {t : ℕ} where
   -- ---- mode 0
 
-  pub plain-room : r .mode ≡ 0 → Room l w t (length (conLines unit m account r o total)) → Room l w t 1
+  pub plain-room : r .mode ≡ 0 → Room l t (length (conLines unit m account r o total)) → Room l t 1
   unfolding conLines
   plain-room e h = rw (eq-eqb _ _ e) at h
 
-  pub plain-done : (from : ℕ) {s : ℕ} {line : Line} {b : List ℕ} {x : Tally} → r .mode ≡ 0 → Past (keyOf unit) m (r .id) from → s ≡ o → line ≡ contingencyLine r s total → Emitted l w t (line ∷ []) b x → LinesDone unit m r (conLines unit m account r o total) l w t b (record { next = from; tally = x })
+  pub plain-done : (from : ℕ) {s : ℕ} {line : Line} {b : List ℕ} {x : ℕ} → r .mode ≡ 0 → Past (keyOf unit) m (r .id) from → s ≡ o → line ≡ contingencyLine r s total → Emitted l t (line ∷ []) b x → LinesDone unit m r (conLines unit m account r o total) l t b (record { next = from; place = x })
   unfolding conLines
   plain-done from e a f g h = record { past = a; out = rw (eq-eqb _ _ e) (rw (g, f) at h) }
 
@@ -56,16 +54,16 @@ module _ (unit : ℕ → UnitRow) (m account : ℕ) (r : Constraint) (o total : 
   count : length (joined (unitLinesAt unit account r p) m) + length (restLines r (residualOf r p) o total) ≡ length (conLines unit m account r o total)
   count = sym (ap length parts ∙ length-append (joined (unitLinesAt unit account r p) m) (restLines r (residualOf r p) o total))
 
-  module _ {l : List ℕ} {w : Bool} {t : Tally} where
-    pub units-room : Room l w t (length (conLines unit m account r o total)) → Room l w t (length (joined (unitLinesAt unit account r p) m))
+  module _ {l : List ℕ} {t : ℕ} where
+    pub units-room : Room l t (length (conLines unit m account r o total)) → Room l t (length (joined (unitLinesAt unit account r p) m))
     units-room h = room-less _ _ (first-part _ _ count) h
       where
         first-part : (a b : ℕ) {c : ℕ} → a + b ≡ c → a ≤ c
         first-part a b q = omega arith
 
-    module _ {a : List ℕ} {x : Cursor} {y : Residual} {s : ℕ} (u : UnitsDone unit m account r p l w t a x) (f : y ≡ residualOf r p) (g : s ≡ o) where
-      pub rest-room : Room l w t (length (conLines unit m account r o total)) → Room a w (x .tally) (length (restLines r y s total))
+    module _ {a : List ℕ} {x : Cursor} {y : Residual} {s : ℕ} (u : UnitsDone unit m account r p l t a x) (f : y ≡ residualOf r p) (g : s ≡ o) where
+      pub rest-room : Room l t (length (conLines unit m account r o total)) → Room a (x .place) (length (restLines r y s total))
       rest-room h = rw (f, g) (room-rest (joined (unitLinesAt unit account r p) m) _ (rw (← count) at h) (u .out))
 
-      pub rest-done : {b : List ℕ} {z : Tally} → Emitted a w (x .tally) (restLines r y s total) b z → LinesDone unit m r (conLines unit m account r o total) l w t b (record { next = x .next; tally = z })
+      pub rest-done : {b : List ℕ} {z : ℕ} → Emitted a (x .place) (restLines r y s total) b z → LinesDone unit m r (conLines unit m account r o total) l t b (record { next = x .next; place = z })
       rest-done h = record { past = u .past; out = rw parts (emitted-more _ _ (u .out) (rw (f, g) at h)) }

@@ -1,38 +1,44 @@
 -- The header and then the lines make the statement; and each way in which the call ends. Assumes nothing.
-use Prim.Native.Nat.{ℕ, _+_, _*_, _≤_, _<_}
-use mathlib.Core.Path.{_≡_, subst}
+use Prim.Native.Nat.{ℕ, _+_, _-_, _*_, _/_, _≤_, _<_}
+use mathlib.Core.Path.{_≡_}
 use mathlib.Core.Bool.{true, false}
 use mathlib.Core.List.{List}
-use lib.ListN.{length}
+use lib.ListN.{length, length-append}
 use native.Mathlib.Omega.{arith}
 use Rattle.ground.specs.Put.{put, Wrote}
-use Rattle.ground.proofs.Put.{put-more}
-use Rattle.accounts.specs.Account.{Public, Rows, unknown}
+use Rattle.ground.proofs.Put.{wrote-front}
+use Rattle.amounts.specs.declared.own.Own.{Own}
+use Rattle.accounts.specs.Account.{Public, Rows, publicOf, unknown}
+use Rattle.book.specs.Book.{Book}
 use Rattle.statement.specs.Statement.{headingBytes, linesBytes, statementBytes}
 use Rattle.statement.specs.Lent.{refuses, gives, Lent}
 use Rattle.statement.specs.declared.Heading.{Heading}
 use Rattle.statement.specs.declared.Line.{Line}
 use Rattle.statement.specs.declared.Written.the-variants.{Length, Refused}
-use Rattle.statement.proofs.Lines.{heading-length, statement-length}
+use Rattle.statement.proofs.Lines.{heading-length, lines-length, statement-length}
 use Rattle.statement.proofs.Lent as lent
-use Rattle.lines.specs.Emitted.{anyOver, Emitted, Room}
-use Rattle.lines.specs.declared.emit.Tally.{Tally}
-use Rattle.settlement.specs.Settle.{linesOf, statementOf, settled}
-
--- no line yet
-abbrev pub start : Tally
-start = record { lines = 0; over = false }
+use Rattle.lines.specs.Emitted.{Emitted}
+use Rattle.lines.specs.Limit.{anyOver}
+use Rattle.settlement.specs.Settle.{linesOf, headingOf, statementOf, settled}
+use Rattle.settlement.specs.Walks.{bookLines, wholeOf}
 
 -- ---- written
 
-pub lines-room : (n : ℕ) (l : List ℕ) {a : List ℕ} {k : ℕ} → k ≡ n → k ≤ 60000 → 24 + k * 24 ≤ length l → length a ≡ length l → Room a true start n
-lines-room n l e f g h = record { few = omega arith; fits = λ _. omega arith }
-
-pub statement-out : (hd : Heading) (ls : List Line) {l a b : List ℕ} {e : ℕ} {x : Tally} → Wrote l 0 (headingBytes hd) a e → Emitted a true start ls b x → b ≡ put l 0 (statementBytes hd ls)
+-- the lines behind the header, and then the header
+pub statement-out : (hd : Heading) (ls : List Line) {l a b : List ℕ} {e f : ℕ} → Emitted l 24 ls a e → Wrote a 0 (headingBytes hd) b f → Wrote l 0 (statementBytes hd ls) b e
 unfolding statementBytes
-statement-out hd ls {l} {a} {b} w m =
-    let q : 24 ≡ 0 + length (headingBytes hd) = omega (arith, heading-length hd) in
-    put-more l 0 (headingBytes hd) (linesBytes ls) (w .bytes) (subst (λ (n : ℕ). b ≡ put a n (linesBytes ls)) q (m .bytes))
+statement-out hd ls {l} {a} {b} m w =
+    record {
+      bytes = wrote-front l (headingBytes hd) (linesBytes ls) (rw (← heading-length hd) at (m .bytes)) (w .bytes);
+      next = rw length-append (omega (arith, m .next, heading-length hd, lines-length ls));
+    }
+
+-- the header says how many lines there are, as their end tells
+pub whole-out : (B : Book) (own : Own) (account : ℕ) {l a b : List ℕ} {e f : ℕ} → Emitted l 24 (bookLines B account own) a e → Wrote a 0 (headingBytes (headingOf account (publicOf B) (e / 24 - 1))) b f → Wrote l 0 (wholeOf account B own) b e
+unfolding wholeOf
+whole-out B own account {e = e} m w =
+    let n : e / 24 - 1 ≡ length (bookLines B account own) = omega (arith, m .next) in
+    rw (← n) (statement-out _ _ m w)
 
 -- ---- the ends of the call; o is what the definition gives
 

@@ -1,3 +1,5 @@
 pub mod Settle
 pub mod Walks
+pub mod Counts
+pub mod Limits
 pub mod Agree

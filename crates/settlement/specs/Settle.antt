@@ -23,7 +23,7 @@ use Rattle.statement.specs.Lent.{Outcome, refuses, gives}
 use Rattle.statement.specs.declared.Heading.{Heading}
 use Rattle.statement.specs.declared.Line.{Line}
 use Rattle.lines.specs.Lines.{contingencyLine, unitLines, restLines, aceLine, asoeLine}
-use Rattle.lines.specs.Emitted.{anyOver}
+use Rattle.lines.specs.Limit.{anyOver}
 
 -- ---- lines; total and own are a region's and the account's energy, by region
 

@@ -1,6 +1,6 @@
 -- The lines of a statement as a walk over the book's rows meets them. Only contracts of inner functions speak of these; proofs/ ties them
 -- to the statement's own definition.
-use Prim.Native.Nat.{ℕ, _≤_, _<_}
+use Prim.Native.Nat.{ℕ, _+_, _*_, _≤_, _<_}
 use mathlib.Core.Path.{_≡_}
 use mathlib.Core.Bool.{Bool, false, cond}
 use mathlib.Core.List.{List, [], _∷_, _++_}
@@ -27,8 +27,8 @@ use Rattle.book.specs.Book.{Book}
 use Rattle.statement.specs.declared.Line.{Line}
 use Rattle.lines.specs.Lines.{Shared, contingencyLine, unitLines, restLines}
 use Rattle.lines.specs.Emitted.{Emitted}
-use Rattle.lines.specs.declared.emit.Tally.{Tally}
-use Rattle.settlement.specs.Settle.{regionLines, linesOf}
+use Rattle.statement.specs.Statement.{statementBytes}
+use Rattle.settlement.specs.Settle.{regionLines, linesOf, headingOf}
 use Rattle.settlement.specs.declared.units.Cursor.{Cursor}
 
 -- a unit row's lines, where the account owns it
@@ -40,9 +40,9 @@ unfoldable pub unitLinesAt : (ℕ → UnitRow) → ℕ → Constraint → Pools 
 unitLinesAt unit account r p u = cond (eqb (keyOf unit u) (r .id)) (ownLines account r p (unit u)) []
 
 -- the run of unit rows is over, and all lines of the constraint's unit rows are out
-pub record UnitsDone (unit : ℕ → UnitRow) (m account : ℕ) (r : Constraint) (p : Pools) (l : List ℕ) (writing : Bool) (t : Tally) (b : List ℕ) (x : Cursor) : Type 0 where
+pub record UnitsDone (unit : ℕ → UnitRow) (m account : ℕ) (r : Constraint) (p : Pools) (l : List ℕ) (k : ℕ) (b : List ℕ) (x : Cursor) : Type 0 where
   pub past : Past (keyOf unit) m (r .id) (x .next)
-  pub out : Emitted l writing t (joined (unitLinesAt unit account r p) m) b (x .tally)
+  pub out : Emitted l k (joined (unitLinesAt unit account r p) m) b (x .place)
 
 -- the lines of one constraint; o and t are the account's energy and the total over its regions
 unfoldable pub conLines : (ℕ → UnitRow) → ℕ → ℕ → Constraint → ℕ → ℕ → List Line
@@ -59,9 +59,9 @@ pub record Settles (unit : ℕ → UnitRow) (m : ℕ) (r : Constraint) (own : Ow
   pub shared : Shared (divisorOf (ownEntry own) r) total
 
 -- the lines ls of constraint r are out, and the cursor stands behind its unit rows
-pub record LinesDone (unit : ℕ → UnitRow) (m : ℕ) (r : Constraint) (ls : List Line) (l : List ℕ) (writing : Bool) (t : Tally) (b : List ℕ) (x : Cursor) : Type 0 where
+pub record LinesDone (unit : ℕ → UnitRow) (m : ℕ) (r : Constraint) (ls : List Line) (l : List ℕ) (k : ℕ) (b : List ℕ) (x : Cursor) : Type 0 where
   pub past : Past (keyOf unit) m (r .id) (x .next)
-  pub out : Emitted l writing t ls b (x .tally)
+  pub out : Emitted l k ls b (x .place)
 
 -- constraint j's lines
 unfoldable pub conLinesAt : (ℕ → Entry) → (ℕ → Constraint) → (ℕ → UnitRow) → ℕ → ℕ → Own → ℕ → List Line
@@ -105,3 +105,12 @@ pub record Owned (B : Book) (account : ℕ) (own : Own) : Type 0 where
   pub lines : linesOf (publicOf B) (rowsOfAccount B account) ≡ bookLines B account own
   pub few : length (bookLines B account own) ≤ 2152
   pub walk : Walkable B own
+
+-- there is room for the header and the lines, and the header can say how many they are
+pub record Fits (ls : List Line) (n : ℕ) : Type 0 where
+  pub few : length ls ≤ 2152
+  pub room : 24 + length ls * 24 ≤ n
+
+-- the statement as it is written, from a book and the account's own energy
+unfoldable pub wholeOf : ℕ → Book → Own → List ℕ
+wholeOf account B own = statementBytes (headingOf account (publicOf B) (length (bookLines B account own))) (bookLines B account own)

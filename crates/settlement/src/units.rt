@@ -17,8 +17,6 @@ use amounts::own;
 use amounts::own::Own;
 use amounts::pools;
 use amounts::pools::Pools;
-use lines::emit;
-use lines::emit::Tally;
 use lines::groups;
 use lines::make;
 use records::rows;
@@ -28,66 +26,70 @@ use records::rows::UnitRow;
 // The lines of a unit row, where the account owns it.
 fn own_unit(
     buf: &mut [u8],
-    t: Tally,
+    place: usize,
     r: Constraint,
     p: Pools,
     q: UnitRow,
     account: u32,
-    writing: bool,
-) -> Tally
-    requires { ⌜ Room (now buf) writing t (length (ownLines account r p q)) ⌝ }
+) -> usize
+    requires { ⌜ Room (now buf) place (length (ownLines account r p q)) ⌝ }
     requires { ⌜ SmallPools p ⌝ }
     requires { ⌜ UnitRule q ⌝ }
-    ensures { λ x. ⌜ Emitted (now (buf .entry)) writing t (ownLines account r p q) (now (buf .exit)) x ⌝ }
+    ensures { λ e. ⌜ Emitted (now (buf .entry)) place (ownLines account r p q) (now (buf .exit)) e ⌝ }
 {
     if q.account != account {
-        return t;
+        return place;
     }
-    groups::emit_unit(buf, t, r, p, q, writing)
+    groups::emit_unit(buf, place, r, p, q)
 }
 
-// Where a walk over unit rows stands, and the tally of its lines.
+// Where a walk over unit rows stands, and where its lines end in the buffer.
 pub struct Cursor {
     pub next: usize,
-    pub tally: Tally,
+    pub place: usize,
 }
 
 // The unit lines of one constraint, from the first of its unit rows on.
 fn unit_run(
     buf: &mut [u8],
-    t: Tally,
+    place: usize,
     units: &[u8],
     m: usize,
     from: usize,
     r: Constraint,
     p: Pools,
     account: u32,
-    writing: bool,
 ) -> Cursor
     requires { ⌜ m * 20 ≤ length (now units) ⌝ }
     requires { ⌜ Walked (unitRow (now units)) m ⌝ }
     requires { ⌜ Stands (keyOf (unitRow (now units))) m (r .id) from ⌝ }
     requires { ⌜ SmallPools p ⌝ }
-    requires { ⌜ Room (now buf) writing t (length (joined (unitLinesAt (unitRow (now units)) account r p) m)) ⌝ }
-    ensures { λ x. ⌜ UnitsDone (unitRow (now (units .entry))) m account r p (now (buf .entry)) writing t (now (buf .exit)) x ⌝ }
+    requires { ⌜ Room (now buf) place (length (joined (unitLinesAt (unitRow (now units)) account r p) m)) ⌝ }
+    ensures { λ x. ⌜ UnitsDone (unitRow (now (units .entry))) m account r p (now (buf .entry)) place (now (buf .exit)) x ⌝ }
 {
-    let mut at = from;
-    let mut tally = t;
-    while at < m {
-        let q = rows::unit_row(units, at);
+    let mut u = from;
+    let mut end = place;
+    while u < m {
+        let q = rows::unit_row(units, u);
         if q.constraint != r.id {
-            return Cursor { next: at, tally };
+            return Cursor {
+                next: u,
+                place: end,
+            };
         }
-        tally = own_unit(buf, tally, r, p, q, account, writing);
-        at += 1;
+        end = own_unit(buf, end, r, p, q, account);
+        u += 1;
     }
-    Cursor { next: at, tally }
+    Cursor {
+        next: u,
+        place: end,
+    }
 }
 
 // All lines of one constraint. A constraint of mode 0 has no unit rows, and the cursor stays.
 pub(crate) fn constraint_lines(
     buf: &mut [u8],
-    t: Tally,
+    place: usize,
     units: &[u8],
     m: usize,
     from: usize,
@@ -95,28 +97,29 @@ pub(crate) fn constraint_lines(
     own: Own,
     total: u64,
     account: u32,
-    writing: bool,
 ) -> Cursor
     requires { ⌜ m * 20 ≤ length (now units) ⌝ }
     requires { ⌜ Walked (unitRow (now units)) m ⌝ }
     requires { ⌜ Stands (keyOf (unitRow (now units))) m (r .id) from ⌝ }
     requires { ⌜ Settles (unitRow (now units)) m r own total ⌝ }
-    requires { ⌜ Room (now buf) writing t (length (conLines (unitRow (now units)) m account r (divisorOf (ownEntry own) r) total)) ⌝ }
-    ensures { λ x. ⌜ LinesDone (unitRow (now (units .entry))) m r (conLines (unitRow (now (units .entry))) m account r (divisorOf (ownEntry own) r) total) (now (buf .entry)) writing t (now (buf .exit)) x ⌝ }
+    requires { ⌜ Room (now buf) place (length (conLines (unitRow (now units)) m account r (divisorOf (ownEntry own) r) total)) ⌝ }
+    ensures { λ x. ⌜ LinesDone (unitRow (now (units .entry))) m r (conLines (unitRow (now (units .entry))) m account r (divisorOf (ownEntry own) r) total) (now (buf .entry)) place (now (buf .exit)) x ⌝ }
 {
     let share = own::over_regions(own, r);
     if r.mode == 0 {
         let line = make::contingency_line(r, share, total);
-        let tally = emit::emit(buf, t, line, writing);
-        return Cursor { next: from, tally };
+        let end = statement::put_line(buf, place, line);
+        return Cursor {
+            next: from,
+            place: end,
+        };
     }
     let p = pools::pools_of(r);
-    let walked = unit_run(buf, t, units, m, from, r, p, account, writing);
+    let walked = unit_run(buf, place, units, m, from, r, p, account);
     let x = pools::residual_of(r, p);
-    let so_far = walked.tally;
-    let tally = groups::emit_rest(buf, so_far, r, x, share, total, writing);
+    let end = groups::emit_rest(buf, walked.place, r, x, share, total);
     Cursor {
         next: walked.next,
-        tally,
+        place: end,
     }
 }

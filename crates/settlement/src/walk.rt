@@ -14,7 +14,6 @@ use crate::units;
 use amounts::own::Own;
 use amounts::pools;
 use book::header::Header;
-use lines::emit::Tally;
 use lines::groups;
 use lines::make;
 use records::rows;
@@ -24,7 +23,7 @@ use totals::divisors;
 // The lines of the n constraints. The cursor over the unit rows only moves forward.
 pub(crate) fn constraints(
     buf: &mut [u8],
-    t: Tally,
+    place: usize,
     regions: &[u8],
     cons: &[u8],
     n: usize,
@@ -32,57 +31,44 @@ pub(crate) fn constraints(
     m: usize,
     own: Own,
     account: u32,
-    writing: bool,
-) -> Tally
+) -> usize
     requires { ⌜ (60 ≤ length (now regions)) × ((n * 40 ≤ length (now cons)) × (m * 20 ≤ length (now units))) ⌝ }
     requires { ⌜ Ready (entryRow (now regions)) (constraintRow (now cons)) n (unitRow (now units)) m own ⌝ }
-    requires { ⌜ Room (now buf) writing t (length (joined (conLinesAt (entryRow (now regions)) (constraintRow (now cons)) (unitRow (now units)) m account own) n)) ⌝ }
-    ensures { λ x. ⌜ Emitted (now (buf .entry)) writing t (joined (conLinesAt (entryRow (now (regions .entry))) (constraintRow (now (cons .entry))) (unitRow (now (units .entry))) m account own) n) (now (buf .exit)) x ⌝ }
+    requires { ⌜ Room (now buf) place (length (joined (conLinesAt (entryRow (now regions)) (constraintRow (now cons)) (unitRow (now units)) m account own) n)) ⌝ }
+    ensures { λ x. ⌜ Emitted (now (buf .entry)) place (joined (conLinesAt (entryRow (now (regions .entry))) (constraintRow (now (cons .entry))) (unitRow (now (units .entry))) m account own) n) (now (buf .exit)) x ⌝ }
 {
-    let mut tally = t;
+    let mut end = place;
     let mut at = 0;
     let mut j = 0;
     while j < n {
         let r = rows::constraint_row(cons, j);
         let total = divisors::divisor(regions, r);
-        let out = units::constraint_lines(
-            buf,
-            tally,
-            units,
-            m,
-            at,
-            r,
-            own,
-            total,
-            account,
-            writing,
-        );
-        tally = out.tally;
+        let out = units::constraint_lines(buf, end, units, m, at, r, own, total, account);
+        end = out.place;
         at = out.next;
         j += 1;
     }
-    tally
+    end
 }
 
 // A contract's two lines in region g, where it benefits.
 fn region_lines(
     buf: &mut [u8],
-    t: Tally,
+    place: usize,
     regions: &[u8],
     k: Contract,
     g: usize,
     own: Own,
-    writing: bool,
-) -> Tally
+) -> usize
     requires { ⌜ (60 ≤ length (now regions)) × (g < 5) ⌝ }
     requires { ⌜ Payable (entryRow (now regions)) k own ⌝ }
-    requires { ⌜ Room (now buf) writing t (length (regionLines (entryRow (now regions)) (ownEntry own) k g)) ⌝ }
-    ensures { λ x. ⌜ Emitted (now (buf .entry)) writing t (regionLines (entryRow (now (regions .entry))) (ownEntry own) k g) (now (buf .exit)) x ⌝ }
+    requires { ⌜ Room (now buf) place (length (regionLines (entryRow (now regions)) (ownEntry own) k g)) ⌝ }
+    ensures { λ x. ⌜ Emitted (now (buf .entry)) place (regionLines (entryRow (now (regions .entry))) (ownEntry own) k g) (now (buf .exit)) x ⌝ }
 {
     let factors = k.factors;
     let factor = factors[g];
     if factor == 0 {
-        return t;
+        return place;
     }
     let e = rows::entry_row(regions, g);
     let ace = own.ace;
@@ -90,76 +76,60 @@ fn region_lines(
     let x = pools::halves_of(k.payment, factor);
     let by_ace = make::ace_line(k.id, g, x, ace[g], e.ace as u64);
     let by_asoe = make::asoe_line(k.id, g, x, asoe[g], e.asoe as u64);
-    groups::emit_two(buf, t, by_ace, by_asoe, writing)
+    groups::emit_two(buf, place, by_ace, by_asoe)
 }
 
-fn contract_lines(
-    buf: &mut [u8],
-    t: Tally,
-    regions: &[u8],
-    k: Contract,
-    own: Own,
-    writing: bool,
-) -> Tally
+fn contract_lines(buf: &mut [u8], place: usize, regions: &[u8], k: Contract, own: Own) -> usize
     requires { ⌜ 60 ≤ length (now regions) ⌝ }
     requires { ⌜ Payable (entryRow (now regions)) k own ⌝ }
-    requires { ⌜ Room (now buf) writing t (length (joined (regionLines (entryRow (now regions)) (ownEntry own) k) 5)) ⌝ }
-    ensures { λ x. ⌜ Emitted (now (buf .entry)) writing t (joined (regionLines (entryRow (now (regions .entry))) (ownEntry own) k) 5) (now (buf .exit)) x ⌝ }
+    requires { ⌜ Room (now buf) place (length (joined (regionLines (entryRow (now regions)) (ownEntry own) k) 5)) ⌝ }
+    ensures { λ x. ⌜ Emitted (now (buf .entry)) place (joined (regionLines (entryRow (now (regions .entry))) (ownEntry own) k) 5) (now (buf .exit)) x ⌝ }
 {
-    let mut tally = t;
+    let mut end = place;
     let mut g = 0;
     while g < 5 {
-        tally = region_lines(buf, tally, regions, k, g, own, writing);
+        end = region_lines(buf, end, regions, k, g, own);
         g += 1;
     }
-    tally
+    end
 }
 
 // The lines of the n contracts.
 pub(crate) fn contracts(
     buf: &mut [u8],
-    t: Tally,
+    place: usize,
     regions: &[u8],
     contracts: &[u8],
     n: usize,
     own: Own,
-    writing: bool,
-) -> Tally
+) -> usize
     requires { ⌜ (60 ≤ length (now regions)) × (n * 36 ≤ length (now contracts)) ⌝ }
     requires { ⌜ ((k : ℕ) → k < n → Payable (entryRow (now regions)) (contractRow (now contracts) k) own) ⌝ }
-    requires { ⌜ Room (now buf) writing t (length (joined (contractLinesAt (entryRow (now regions)) (ownEntry own) (contractRow (now contracts))) n)) ⌝ }
-    ensures { λ x. ⌜ Emitted (now (buf .entry)) writing t (joined (contractLinesAt (entryRow (now (regions .entry))) (ownEntry own) (contractRow (now (contracts .entry)))) n) (now (buf .exit)) x ⌝ }
+    requires { ⌜ Room (now buf) place (length (joined (contractLinesAt (entryRow (now regions)) (ownEntry own) (contractRow (now contracts))) n)) ⌝ }
+    ensures { λ x. ⌜ Emitted (now (buf .entry)) place (joined (contractLinesAt (entryRow (now (regions .entry))) (ownEntry own) (contractRow (now (contracts .entry)))) n) (now (buf .exit)) x ⌝ }
 {
-    let mut tally = t;
+    let mut end = place;
     let mut i = 0;
     while i < n {
         let k = rows::contract_row(contracts, i);
-        tally = contract_lines(buf, tally, regions, k, own, writing);
+        end = contract_lines(buf, end, regions, k, own);
         i += 1;
     }
-    tally
+    end
 }
 
-// All lines of the account: those of the constraints, then those of the contracts.
-pub(crate) fn all_lines(
-    buf: &mut [u8],
-    t: Tally,
-    book: &[u8],
-    h: Header,
-    own: Own,
-    account: u32,
-    writing: bool,
-) -> Tally
+// All lines of the account, behind the header: those of the constraints, then those of the contracts. Answers where they end.
+pub(crate) fn all_lines(buf: &mut [u8], book: &[u8], h: Header, own: Own, account: u32) -> usize
     requires { ⌜ Laid (now book) h ⌝ }
     requires { ⌜ Walkable (bookIn (now book) h) own ⌝ }
-    requires { ⌜ Room (now buf) writing t (length (bookLines (bookIn (now book) h) account own)) ⌝ }
-    ensures { λ x. ⌜ Emitted (now (buf .entry)) writing t (bookLines (bookIn (now (book .entry)) h) account own) (now (buf .exit)) x ⌝ }
+    requires { ⌜ Room (now buf) 24 (length (bookLines (bookIn (now book) h) account own)) ⌝ }
+    ensures { λ e. ⌜ Emitted (now (buf .entry)) 24 (bookLines (bookIn (now (book .entry)) h) account own) (now (buf .exit)) e ⌝ }
 {
     let units = h.units_at();
     let paid = h.contracts_at();
     let first = constraints(
         buf,
-        t,
+        24,
         &book[24..],
         &book[84..],
         h.constraints as usize,
@@ -167,7 +137,6 @@ pub(crate) fn all_lines(
         h.units as usize,
         own,
         account,
-        writing,
     );
     contracts(
         buf,
@@ -176,6 +145,5 @@ pub(crate) fn all_lines(
         &book[paid..],
         h.contracts as usize,
         own,
-        writing,
     )
 }

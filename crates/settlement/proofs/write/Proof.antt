@@ -1,25 +1,31 @@
--- `settlement::write` meets its contract. The header is written, and the lines behind it. Assumes nothing.
-use mathlib.Core.Path.{_∙_}
-use borrow.Author.Needs.{needs}
+-- `settlement::write` meets its contract. The lines are written behind the header's place, and then the header. Assumes nothing.
+use Rattle.book.specs.Book.{bookIn}
 use Rattle.accounts.specs.Account.{publicOf}
-use Rattle.lines.proofs.Emission.{emitted-length}
-use Rattle.ground.proofs.Put.{wrote-length}
-use Rattle.settlement.proofs.Whole.{lines-room, statement-out}
+use Rattle.settlement.proofs.Whole.{whole-out}
+use borrow.Author.Needs.{needs}
 use Rattle.settlement.proofs.write.Statement.{statement}
 use Rattle.settlement.proofs.write.Tie as tie
+
+all-lines-requires : tie.Need-all-lines-requires
+all-lines-requires c κs = search needs
+
+sub-t11 : tie.Need-sub-t11
+sub-t11 c = search needs
+
+cast-t12 : tie.Need-cast-t12
+cast-t12 c = search needs
 
 put-heading-requires : tie.Need-put-heading-requires
 put-heading-requires c κs = search needs
 
-all-lines-requires : tie.Need-all-lines-requires
-all-lines-requires c κs = (c .before .before .before .before .before .before .before .pre .0, (c .before .before .before .before .before .before .before .pre .1 .0, lines-room _ (c .before .before .before .before .before .before .before .args .buffer .now) (c .before .before .before .before .before .before .before .pre .1 .1 .0) (c .before .before .before .before .before .before .before .pre .1 .1 .1 .0) (c .before .before .before .before .before .before .before .pre .1 .1 .1 .1) (wrote-length (c .before .before .before .put-heading .ensures))))
-
 same-length : tie.Need-same-length
-same-length c = emitted-length _ (c .before .before .all-lines .ensures) ∙ wrote-length (c .before .before .before .before .before .before .put-heading .ensures)
+same-length c = search needs
 
 returns : tie.Need-returns
 unfolding publicOf
-returns c = statement-out _ _ (c .before .before .before .before .before .before .put-heading .ensures) (c .before .before .all-lines .ensures)
+returns c = whole-out (bookIn (c .before .before .before .before .before .before .before .before .before .before .args .book .now) (c .before .before .before .before .before .before .before .before .before .before .args .h)) (c .before .before .before .before .before .before .before .before .before .before .args .own) _ (c .before .before .before .before .before .before .all-lines .ensures) (c .before .before .put-heading .ensures)
 
 pub write-spec : {M : Type 1} → statement M
-write-spec = tie.close (tie.spec put-heading-requires all-lines-requires same-length returns)
+write-spec =
+    tie.close
+    (tie.spec all-lines-requires sub-t11 cast-t12 put-heading-requires same-length returns)

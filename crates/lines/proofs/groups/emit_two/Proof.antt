@@ -2,21 +2,21 @@
 use mathlib.Core.List.{[], _∷_}
 use native.Mathlib.Omega.{arith}
 use borrow.Author.Needs.{needs}
-use Rattle.lines.proofs.Emission.{emitted-more, room-less, room-rest}
+use Rattle.lines.proofs.Emission.{emitted-one, emitted-more, room-rest}
 use Rattle.lines.proofs.groups.emit_two.Statement.{statement}
 use Rattle.lines.proofs.groups.emit_two.Tie as tie
 
-emit-requires : tie.Need-emit-requires
-emit-requires c κs = room-less 1 2 (omega arith) (c .before .before .pre)
+put-line-requires : tie.Need-put-line-requires
+put-line-requires c κs = search needs
 
-emit-requires-2 : tie.Need-emit-requires-2
-emit-requires-2 c κs = room-rest (c .before .before .before .before .before .before .args .first ∷ []) 1 (c .before .before .before .before .before .before .pre) (c .before .before .before .emit .ensures)
+put-line-requires-2 : tie.Need-put-line-requires-2
+put-line-requires-2 c κs = omega (arith, room-rest (c .before .before .before .before .before .before .args .first ∷ []) 1 (c .before .before .before .before .before .before .pre) (emitted-one _ (c .before .before .before .put-line .ensures)) .fits)
 
 same-length : tie.Need-same-length
 same-length c = search needs
 
 returns : tie.Need-returns
-returns c = emitted-more (c .before .before .before .before .before .before .before .before .before .args .first ∷ []) (c .before .before .before .before .before .before .before .before .before .args .second ∷ []) (c .before .before .before .before .before .before .emit .ensures) (c .before .before .emit2 .ensures)
+returns c = emitted-more (c .before .before .before .before .before .before .before .before .before .args .first ∷ []) (c .before .before .before .before .before .before .before .before .before .args .second ∷ []) (emitted-one _ (c .before .before .before .before .before .before .put-line .ensures)) (emitted-one _ (c .before .before .put-line2 .ensures))
 
 pub emit-two-spec : {M : Type 1} → statement M
-emit-two-spec = tie.close (tie.spec emit-requires emit-requires-2 same-length returns)
+emit-two-spec = tie.close (tie.spec put-line-requires put-line-requires-2 same-length returns)

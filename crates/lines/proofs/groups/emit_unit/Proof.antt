@@ -1,6 +1,8 @@
 -- `lines::groups::emit_unit` meets its contract. The mode decides whether there are three lines or one. Assumes nothing.
 use borrow.Author.Tests.{eq-eqb, ne-eqb}
+use native.Mathlib.Omega.{arith}
 use borrow.Author.Needs.{needs}
+use Rattle.lines.proofs.Emission.{emitted-one}
 use Rattle.lines.specs.Lines.{unitLines}
 use Rattle.lines.proofs.groups.emit_unit.Statement.{statement}
 use Rattle.lines.proofs.groups.emit_unit.Tie as tie
@@ -25,16 +27,16 @@ returns : tie.Need-returns
 unfolding unitLines
 returns c = rw (eq-eqb _ _ (c .before .before .before .before .before .before .if1 .taken)) (rw (c .before .before .before .before .before .fpp-line .ensures, c .before .before .before .before .used-line .ensures, c .before .before .before .before .before .before .before .before .unused-line .ensures) at (c .before .before .emit-three .ensures))
 
-emit-requires : tie.Need-emit-requires
+put-line-requires : tie.Need-put-line-requires
 unfolding unitLines
-emit-requires c κs = rw (ne-eqb _ _ (c .before .if1 .left)) at (c .before .before .before .before .before .pre .0)
+put-line-requires c κs = omega (arith, (rw (ne-eqb _ _ (c .before .if1 .left)) at (c .before .before .before .before .before .pre .0)) .fits)
 
 same-length-2 : tie.Need-same-length-2
 same-length-2 c = search needs
 
 returns-2 : tie.Need-returns-2
 unfolding unitLines
-returns-2 c = rw (ne-eqb _ _ (c .before .before .before .before .if1 .left)) (rw (c .before .before .before .before .before .before .unused-line .ensures) at (c .before .before .emit .ensures))
+returns-2 c = rw (ne-eqb _ _ (c .before .before .before .before .if1 .left)) (rw (c .before .before .before .before .before .before .unused-line .ensures) at (emitted-one _ (c .before .before .put-line .ensures)))
 
 pub emit-unit-spec : {M : Type 1} → statement M
 emit-unit-spec =
@@ -46,6 +48,6 @@ emit-unit-spec =
     emit-three-requires
     same-length
     returns
-    emit-requires
+    put-line-requires
     same-length-2
     returns-2)

@@ -9,10 +9,10 @@ use Rattle.settlement.proofs.units.unit_run.Statement.{statement}
 use Rattle.settlement.proofs.units.unit_run.Tie as tie
 
 abbrev Inv-loop : tie.InvT-loop
-Inv-loop buf₀ units m from r p account writing at₀ tally₀ buf at tally = Running (unitRow units) m account r p buf₀ writing tally₀ buf at tally
+Inv-loop buf₀ place units m from r p account u₀ end₀ buf u end = Running (unitRow units) m account r p buf₀ place buf u end
 
 abbrev μ-loop : tie.MeasureT-loop
-μ-loop buf₀ units m from r p account writing at₀ tally₀ buf at tally = m - at
+μ-loop buf₀ place units m from r p account u₀ end₀ buf u end = m - u
 
 loop-holds : tie.Need-loop-holds Inv-loop μ-loop
 loop-holds c = running-start _ _ _ _ _ _ (c .before .before .pre .1 .1 .0)
@@ -29,8 +29,8 @@ returns c = running-stop _ _ _ _ _ _ (c .before .before .before .before .before 
 own-unit-requires : tie.Need-own-unit-requires Inv-loop μ-loop
 own-unit-requires c κs = (running-room _ _ _ _ _ _ (c .before .before .before .before .before .before .loop .inv) (c .before .before .before .before .before .loop-test .taken) (c .before .before .before .before .unit-row .ensures) (c .before .if1 .left) (c .before .before .before .before .before .before .before .before .before .pre .1 .1 .1 .1), (c .before .before .before .before .before .before .before .before .before .pre .1 .1 .1 .0, rw (c .before .before .before .before .unit-row .ensures) (c .before .before .before .before .before .before .before .before .before .pre .1 .0 .rules _ (c .before .before .before .before .before .loop-test .taken))))
 
-add-at : tie.Need-add-at Inv-loop μ-loop
-add-at c = omega arith
+add-u : tie.Need-add-u Inv-loop μ-loop
+add-u c = omega arith
 
 loop-less : tie.Need-loop-less Inv-loop μ-loop
 loop-less c = omega arith
@@ -55,7 +55,7 @@ unit-run-spec =
     same-length
     returns
     own-unit-requires
-    add-at
+    add-u
     loop-less
     loop-again
     same-length-2

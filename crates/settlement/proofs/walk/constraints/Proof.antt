@@ -14,10 +14,10 @@ use Rattle.settlement.proofs.walk.constraints.Statement.{statement}
 use Rattle.settlement.proofs.walk.constraints.Tie as tie
 
 abbrev Inv-loop : tie.InvT-loop
-Inv-loop buf₀ regions cons n units m own account writing tally₀ at₀ j₀ buf tally at j = (j ≤ n) × (Emitted buf₀ writing tally₀ (joined (conLinesAt (entryRow regions) (constraintRow cons) (unitRow units) m account own) j) buf tally × (j < n → Stands (keyOf (unitRow units)) m (idOf (constraintRow cons) j) at))
+Inv-loop buf₀ place regions cons n units m own account end₀ at₀ j₀ buf end at j = (j ≤ n) × (Emitted buf₀ place (joined (conLinesAt (entryRow regions) (constraintRow cons) (unitRow units) m account own) j) buf end × (j < n → Stands (keyOf (unitRow units)) m (idOf (constraintRow cons) j) at))
 
 abbrev μ-loop : tie.MeasureT-loop
-μ-loop buf₀ regions cons n units m own account writing tally₀ at₀ j₀ buf tally at j = n - j
+μ-loop buf₀ place regions cons n units m own account end₀ at₀ j₀ buf end at j = n - j
 
 loop-holds : tie.Need-loop-holds Inv-loop μ-loop
 loop-holds c = (omega arith, (out-start _, λ l. stands-first _ _ _ _ (c .before .before .before .before .pre .1 .0 .rise) (c .before .before .before .before .pre .1 .0 .names) l))
@@ -38,7 +38,7 @@ loop-less : tie.Need-loop-less Inv-loop μ-loop
 loop-less c = omega arith
 
 loop-again : tie.Need-loop-again Inv-loop μ-loop
-loop-again c = (omega arith, (out-more _ _ (c .before .before .before .before .before .before .before .before .loop .inv .1 .0) (con-out _ _ (c .before .before .before .before .before .before .before .before .before .before .before .before .before .args .n) _ _ _ _ _ (c .before .before .before .before .before .before .constraint-row .ensures) (c .before .before .before .before .before .divisor .ensures) (c .before .before .before .constraint-lines .ensures)), λ l. stands-next _ _ _ _ (c .before .before .before .before .before .before .before .before .before .before .before .before .before .pre .1 .0 .rise) (c .before .before .before .before .before .before .before .before .before .before .before .before .before .pre .1 .0 .names) _ _ (rw (c .before .before .before .before .before .before .constraint-row .ensures) at (c .before .before .before .constraint-lines .ensures .past)) l))
+loop-again c = (omega arith, (out-more _ _ (c .before .before .before .before .before .before .before .loop .inv .1 .0) (con-out _ _ (c .before .before .before .before .before .before .before .before .before .before .before .before .args .n) _ _ _ _ _ (c .before .before .before .before .before .constraint-row .ensures) (c .before .before .before .before .divisor .ensures) (c .before .before .constraint-lines .ensures)), λ l. stands-next _ _ _ _ (c .before .before .before .before .before .before .before .before .before .before .before .before .pre .1 .0 .rise) (c .before .before .before .before .before .before .before .before .before .before .before .before .pre .1 .0 .names) _ _ (rw (c .before .before .before .before .before .constraint-row .ensures) at (c .before .before .constraint-lines .ensures .past)) l))
 
 same-length : tie.Need-same-length Inv-loop μ-loop
 same-length c = emitted-length _ (c .before .loop .inv .1 .0)

@@ -12,10 +12,10 @@ use Rattle.settlement.proofs.walk.contract_lines.Statement.{statement}
 use Rattle.settlement.proofs.walk.contract_lines.Tie as tie
 
 abbrev Inv-loop : tie.InvT-loop
-Inv-loop buf₀ regions k own writing tally₀ g₀ buf tally g = (g ≤ 5) × Emitted buf₀ writing tally₀ (joined (regionLines (entryRow regions) (ownEntry own) k) g) buf tally
+Inv-loop buf₀ place regions k own end₀ g₀ buf end g = (g ≤ 5) × Emitted buf₀ place (joined (regionLines (entryRow regions) (ownEntry own) k) g) buf end
 
 abbrev μ-loop : tie.MeasureT-loop
-μ-loop buf₀ regions k own writing tally₀ g₀ buf tally g = 5 - g
+μ-loop buf₀ place regions k own end₀ g₀ buf end g = 5 - g
 
 loop-holds : tie.Need-loop-holds Inv-loop μ-loop
 loop-holds c = (omega arith, out-start _)

@@ -12,10 +12,10 @@ use Rattle.settlement.proofs.walk.contracts.Statement.{statement}
 use Rattle.settlement.proofs.walk.contracts.Tie as tie
 
 abbrev Inv-loop : tie.InvT-loop
-Inv-loop buf₀ regions contracts n own writing tally₀ i₀ buf tally i = (i ≤ n) × Emitted buf₀ writing tally₀ (joined (contractLinesAt (entryRow regions) (ownEntry own) (contractRow contracts)) i) buf tally
+Inv-loop buf₀ place regions contracts n own end₀ i₀ buf end i = (i ≤ n) × Emitted buf₀ place (joined (contractLinesAt (entryRow regions) (ownEntry own) (contractRow contracts)) i) buf end
 
 abbrev μ-loop : tie.MeasureT-loop
-μ-loop buf₀ regions contracts n own writing tally₀ i₀ buf tally i = n - i
+μ-loop buf₀ place regions contracts n own end₀ i₀ buf end i = n - i
 
 loop-holds : tie.Need-loop-holds Inv-loop μ-loop
 loop-holds c = (omega arith, out-start _)

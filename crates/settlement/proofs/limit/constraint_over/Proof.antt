@@ -1,0 +1,15 @@
+-- `settlement::limit::constraint_over` meets its contract. Its pools are those of the definition. Assumes nothing.
+use borrow.Author.Needs.{needs}
+use Rattle.settlement.specs.Limits.{constraintOver}
+use Rattle.settlement.proofs.limit.constraint_over.Statement.{statement}
+use Rattle.settlement.proofs.limit.constraint_over.Tie as tie
+
+pools-of-requires : tie.Need-pools-of-requires
+pools-of-requires c κs = search needs
+
+returns : tie.Need-returns
+unfolding constraintOver
+returns c = rw (c .before .before .before .pools-of .ensures)
+
+pub constraint-over-spec : {M : Type 1} → statement M
+constraint-over-spec = tie.close (tie.spec pools-of-requires returns)
