@@ -1,8 +1,9 @@
 // A record of a sorted section, found by halves. A record starts with the number that its section is sorted by first.
+ghost use mathlib.Core.Path.{_≡_};
 ghost use Prim.Native.Nat.{_*_, _≤_};
 ghost use lib.ListN.{length};
 ghost use Rattle.sections.specs.Order.{Keeps};
-ghost use Rattle.sections.specs.Walk.{Stands};
+ghost use Rattle.sections.specs.Walk.{Stands, atKey};
 ghost use Rattle.records.specs.Rows.{leadAt};
 use ground::read;
 
@@ -23,4 +24,15 @@ pub fn first_from(s: &[u8], size: usize, n: usize, key: u32) -> usize
         }
     }
     low
+}
+
+// Whether record i is there and its leading number is the key.
+pub fn has_key(s: &[u8], size: usize, n: usize, i: usize, key: u32) -> bool
+    requires { ⌜ (n * size ≤ length (now s)) × (4 ≤ size) ⌝ }
+    ensures { λ b. ⌜ b ≡ atKey (leadAt (now (s .entry)) size) n key i ⌝ }
+{
+    if n <= i {
+        return false;
+    }
+    read::u32_at(s, i * size) == key
 }

@@ -40,7 +40,7 @@ cast-own-energy : tie.Need-cast-own-energy
 cast-own-energy c = search needs
 
 own-energy-requires : tie.Need-own-energy-requires
-own-energy-requires c κs = ((energies-room _ _ (c .before .before .before .before .before .before .before .before .before .pre .0) _ (c .before .before .before .before .before .energies-at .ensures), c .before .before .before .before .before .before .before .before .before .pre .0 .few .energies), rw (c .before .before .before .before .before .energies-at .ensures) (c .before .before .before .before .before .before .before .before .before .pre .1 .fields .energies))
+own-energy-requires c κs = ((energies-room _ _ (c .before .before .before .before .before .before .before .before .before .pre .0) _ (c .before .before .before .before .before .energies-at .ensures), c .before .before .before .before .before .before .before .before .before .pre .0 .few .energies), (rw (c .before .before .before .before .before .energies-at .ensures) (c .before .before .before .before .before .before .before .before .before .pre .1 .fields .energies), rw (c .before .before .before .before .before .energies-at .ensures) (record { keep = c .before .before .before .before .before .before .before .before .before .pre .1 .ordered .energies .first })))
 
 returns : tie.Need-returns
 returns c = end-11 (bookIn (c .before .before .before .before .before .before .before .before .before .before .before .before .args .book .now) (c .before .before .before .before .before .before .before .before .before .before .before .before .args .h)) (c .before .before .before .before .before .before .before .before .before .before .before .before .args .account) (c .before .before .before .before .before .before .before .before .before .before .before .before .pre .1) (rw (c .before .before .before .before .before .before .before .before .energies-at .ensures) at (c .before .before .own-energy .ensures)) (rw (c .before .before .before .before .before .before .before .before .before .units-at .ensures) at (c .before .before .before .before .before .has-units .ensures)) _ (c .if1 .taken)
