@@ -1,115 +1,105 @@
--- An account's sums turn by turn, and what they are at the end. Assumes nothing.
+-- A search for an account among unit rows; its sums over its own energy rows, turn by turn, and what they are at the end. Assumes nothing.
 use Prim.Native.Nat.{ℕ, _+_, _≤_, _<_}
 use mathlib.Core.Path.{_≡_, refl, sym, ap, _∙_}
-use mathlib.Core.Bool.{Bool, true, false, cond, _||_}
+use mathlib.Core.Bool.{Bool, true, false, cond, not}
 use mathlib.Core.List.{List}
 use native.Mathlib.Omega.{arith}
-use native.Mathlib.Numerals.{add-one}
-use native.Mathlib.Nat.{add-zero}
 use borrow.Author.Tests.{eq-eqb, ne-eqb}
-use lib.Dec.{eqb}
-use lib.ListN.{getD, set, replicate}
+use lib.Dec.{eqb, ltb}
+use lib.ListN.{getD, replicate}
 use Rattle.sections.specs.Total.{keyed}
-use Rattle.sections.specs.Search.{some}
-use Rattle.sections.specs.Walk.{Split}
-use Rattle.sections.proofs.Total.{total-more}
-use Rattle.sections.proofs.Groups.{split-none, split-more, split-bound}
+use Rattle.sections.specs.Order.{Keeps}
+use Rattle.sections.specs.Walk.{Stands, Past, atKey, Split}
+use Rattle.sections.proofs.Search.{some-none, some-here}
+use Rattle.sections.proofs.Total.{keyed-hit, keyed-le}
+use Rattle.sections.proofs.Groups.{split-nothing, split-more, split-rest, split-bound}
+use Rattle.sections.proofs.Walk.{Run, run-start, run-next, run-over, run-any, at-key, before-run, behind-run}
 use Rattle.records.specs.Facts.{EnergyRule}
+use Rattle.records.specs.declared.rows.UnitRow.{UnitRow}
 use Rattle.records.specs.declared.rows.EnergyRow.{EnergyRow}
 use Rattle.totals.specs.Sums.{regionOf}
 use Rattle.amounts.specs.declared.own.Own.{Own}
+use Rattle.accounts.specs.Rows.{rowsOf, keep, sumOf, none}
 use Rattle.accounts.specs.Account.{ownEnergy}
 use Rattle.accounts.specs.Held.{HeldIs, Low, plus, Added}
 use Rattle.accounts.proofs.Lists.{total-rows, some-rows}
 
--- ---- searches
+-- ---- unit rows
 
-module _ (p : ℕ → Bool) where
-  pub some-start : false ≡ some p 0
-  unfolding some
-  some-start = refl
+module _ (unit : ℕ → UnitRow) (m account : ℕ) where
+  -- row i, q, is the account's
+  pub unit-found : (i : ℕ) {q : UnitRow} → i < m → q ≡ unit i → q .account ≡ account → true ≡ not (none (keep (λ r. eqb (r .account) account) (rowsOf unit m)))
+  unit-found i l e h =
+      sym (some-here _ m i l (eq-eqb (unit i .account) account (rw e at h))) ∙ some-rows unit (λ r. eqb (r .account) account) m
 
-  pub some-more : (i : ℕ) {b x : Bool} → b ≡ some p i → x ≡ p i → (b || x) ≡ some p (i + 1)
-  unfolding some
-  some-more i d e = rw (add-one, d, e)
+  -- none of all the rows is
+  pub unit-none : (i : ℕ) → ((k : ℕ) → k < i → unit k .account ≡ account → ⊥) → m ≤ i → false ≡ not (none (keep (λ r. eqb (r .account) account) (rowsOf unit m)))
+  unit-none i h l =
+      sym (some-none _ m (λ k b. ne-eqb (unit k .account) account (h k (omega arith)))) ∙ some-rows unit (λ r. eqb (r .account) account) m
 
--- a record that adds nothing leaves every group's sum
-split-same : (group f : ℕ → ℕ) (groups i : ℕ) {l : List ℕ} → Split groups group f i l → f i ≡ 0 → Split groups group f (i + 1) l
-unfolding keyed
-split-same group f groups i {l} s e =
-    record { long = s .long; each = λ g b. sym (add-zero (getD l g 0)) ∙ total-more _ i (s .each g b) (sym (by (eqb (group i) g))) }
-  where
-    by : (t : Bool) → cond t (f i) 0 ≡ 0
-    by true = e
-    by false = refl
+-- ---- energy rows
 
--- ---- one row
+module _ (energy : ℕ → EnergyRow) (n account : ℕ) where
+  abbrev accountOf : ℕ → ℕ
+  accountOf i = energy i .account
 
--- another account's row leaves the sums
-pub added-none : (r : EnergyRow) (account : ℕ) (o : Own) → (r .account ≡ account → ⊥) → Added r account o o false
-unfolding plus
-added-none r account o h =
-    let e = ne-eqb (r .account) account h in
-    record { ace = rw e; asoe = rw e; residual = rw e; mine = sym e }
-
--- the account's row is added in its region
-pub added-own : (r : EnergyRow) (account : ℕ) (o x : Own) → r .account ≡ account → x .ace ≡ set (o .ace) (r .region) (getD (o .ace) (r .region) 0 + r .ace) → x .asoe ≡ set (o .asoe) (r .region) (getD (o .asoe) (r .region) 0 + r .asoe) → x .residual ≡ set (o .residual) (r .region) (getD (o .residual) (r .region) 0 + (r .race + r .rasoe)) → Added r account o x true
-unfolding plus
-added-own r account o x h a b d =
-    let e = eq-eqb (r .account) account h in
-    record { ace = rw (e, a); asoe = rw (e, b); residual = rw (e, d); mine = sym e }
-
--- ---- all rows
-
-module _ (energy : ℕ → EnergyRow) (account : ℕ) where
   -- what row i counts for
   abbrev mineOf : (EnergyRow → ℕ) → ℕ → ℕ
-  mineOf f i = cond (eqb (energy i .account) account) (f (energy i)) 0
+  mineOf f = keyed accountOf account (λ i. f (energy i))
 
-  -- the sums over the first i rows, and whether one of them is the account's
-  pub record Sums (i : ℕ) (o : Own) (b : Bool) : Type 0 where
+  -- the sums over those of the first i rows that are the account's; the rows from i on are of no account before it
+  pub record Sums (i : ℕ) (o : Own) : Type 0 where
+    pub run : Run accountOf n account i
     pub ace : Split 5 (regionOf energy) (mineOf (λ r. r .ace)) i (o .ace)
     pub asoe : Split 5 (regionOf energy) (mineOf (λ r. r .asoe)) i (o .asoe)
     pub residual : Split 5 (regionOf energy) (mineOf (λ r. r .race + r .rasoe)) i (o .residual)
-    pub any : b ≡ some (λ k. eqb (energy k .account) account) i
 
-  pub sums-none : Sums 0 (record { ace = replicate 5 0; asoe = replicate 5 0; residual = replicate 5 0 }) false
-  sums-none =
-      record { ace = split-none _ _ 5; asoe = split-none _ _ 5; residual = split-none _ _ 5; any = some-start _ }
-
-  plus-more : (f : EnergyRow → ℕ) (i : ℕ) {l : List ℕ} {r : EnergyRow} → Split 5 (regionOf energy) (mineOf f) i l → r ≡ energy i → r .region ≤ 4 → Split 5 (regionOf energy) (mineOf f) (i + 1) (plus (eqb (r .account) account) l (r .region) (f r))
-  unfolding plus
-  plus-more f i {l} {r} s e h = by (eqb (r .account) account) (ap (λ (r : EnergyRow). eqb (r .account) account) e)
-    where
-      by : (t : Bool) → t ≡ eqb (energy i .account) account → Split 5 (regionOf energy) (mineOf f) (i + 1) (cond t (set l (r .region) (getD l (r .region) 0 + f r)) l)
-      by true q = split-more _ _ 5 i s (ap (λ (r : EnergyRow). r .region) e) (omega arith) (rw (← q) (ap f e))
-      by false q = split-same _ _ 5 i s (rw (← q))
-
-  -- a turn: r is row i, and x the sums with it
-  pub sums-more : (i : ℕ) {o x : Own} {b t : Bool} {r : EnergyRow} → Sums i o b → r ≡ energy i → EnergyRule r → Added r account o x t → Sums (i + 1) x (b || t)
-  sums-more i s e q p =
+  -- before the account's rows there is nothing to add
+  pub sums-start : (i : ℕ) → Stands accountOf n account i → Sums i (record { ace = replicate 5 0; asoe = replicate 5 0; residual = replicate 5 0 })
+  sums-start i s =
       record {
-        ace = rw (p .ace) (plus-more (λ r. r .ace) i (s .ace) e (q .region));
-        asoe = rw (p .asoe) (plus-more (λ r. r .asoe) i (s .asoe) e (q .region));
-        residual = rw (p .residual) (plus-more (λ r. r .race + r .rasoe) i (s .residual) e (q .region));
-        any = some-more _ i (s .any) (p .mine ∙ ap (λ (r : EnergyRow). eqb (r .account) account) e);
+        run = run-start _ n account i s;
+        ace = split-nothing _ _ 5 i (before-run _ n account _ i s);
+        asoe = split-nothing _ _ 5 i (before-run _ n account _ i s);
+        residual = split-nothing _ _ 5 i (before-run _ n account _ i s);
       }
-
-  mine-le : (f : EnergyRow → ℕ) (b i : ℕ) → f (energy i) ≤ b → mineOf f i ≤ b
-  mine-le f b i h = by (eqb (energy i .account) account)
-    where
-      by : (t : Bool) → cond t (f (energy i)) 0 ≤ b
-      by true = h
-      by false = omega arith
 
   -- the sums of at most 1,024 rows are small
-  pub sums-low : (n i : ℕ) {o : Own} {b : Bool} → n ≤ 1024 → ((i : ℕ) → i < n → EnergyRule (energy i)) → i ≤ n → Sums i o b → (g : ℕ) → g < 5 → Low o g
-  sums-low n i few q l s g b =
+  sums-low : (i : ℕ) {o : Own} → n ≤ 1024 → ((i : ℕ) → i < n → EnergyRule (energy i)) → Sums i o → (g : ℕ) → g < 5 → Low o g
+  sums-low i few q s g b =
+      let high = s .run .high in
       record {
-        ace = omega (arith, split-bound _ _ 5 40000000 n (λ j k. mine-le (λ r. r .ace) 40000000 j (omega (arith, q j k .ace))) i (s .ace) l g b);
-        asoe = omega (arith, split-bound _ _ 5 40000000 n (λ j k. mine-le (λ r. r .asoe) 40000000 j (omega (arith, q j k .asoe))) i (s .asoe) l g b);
-        residual = omega (arith, split-bound _ _ 5 40000000 n (λ j k. mine-le (λ r. r .race + r .rasoe) 40000000 j (let a = q j k in omega arith)) i (s .residual) l g b);
+        ace = omega (arith, split-bound _ _ 5 40000000 n (λ j k. keyed-le accountOf account _ 40000000 j (omega (arith, q j k .ace))) i (s .ace) high g b);
+        asoe = omega (arith, split-bound _ _ 5 40000000 n (λ j k. keyed-le accountOf account _ 40000000 j (omega (arith, q j k .asoe))) i (s .asoe) high g b);
+        residual = omega (arith, split-bound _ _ 5 40000000 n (λ j k. keyed-le accountOf account _ 40000000 j (let a = q j k in omega arith)) i (s .residual) high g b);
       }
+
+  -- the loop's test holds of row i: it is there, and the account's
+  module _ (i : ℕ) {o : Own} {t : Bool} (s : Sums i o) (e : t ≡ atKey accountOf n account i) (h : t ≡ true) where
+    pub own-at : (i < n) × (energy i .account ≡ account)
+    own-at = at-key accountOf n account i (rw e at h)
+
+    -- r is row i
+    module _ {r : EnergyRow} (q : r ≡ energy i) (rules : (i : ℕ) → i < n → EnergyRule (energy i)) where
+      own-rule : EnergyRule r
+      own-rule = rw q (rules i (own-at .0))
+
+      pub own-room : n ≤ 1024 → EnergyRule r × Low o (r .region)
+      own-room few = (own-rule, sums-low i few rules s (r .region) (omega (arith, own-rule .region)))
+
+      more : (f : EnergyRow → ℕ) {l : List ℕ} → Split 5 (regionOf energy) (mineOf f) i l → Split 5 (regionOf energy) (mineOf f) (i + 1) (plus l (r .region) (f r))
+      more f d =
+          split-more _ _ 5 i d (ap (λ (r : EnergyRow). r .region) q) (omega (arith, own-rule .region)) (ap f q ∙ keyed-hit accountOf account (λ i. f (energy i)) i (own-at .1))
+
+      -- a turn: x has the sums with it
+      pub sums-more : {x : Own} → Added r o x → Sums (i + 1) x
+      sums-more p =
+          record {
+            run = run-next _ n account i (s .run) (own-at .0) (own-at .1);
+            ace = rw (p .ace) (more (λ r. r .ace) (s .ace));
+            asoe = rw (p .asoe) (more (λ r. r .asoe) (s .asoe));
+            residual = rw (p .residual) (more (λ r. r .race + r .rasoe) (s .residual));
+          }
 
   swapped : (f : EnergyRow → ℕ) (g i : ℕ) → keyed (regionOf energy) g (mineOf f) i ≡ cond (eqb (energy i .account) account) (cond (eqb (energy i .region) g) (f (energy i)) 0) 0
   unfolding keyed
@@ -120,16 +110,23 @@ module _ (energy : ℕ → EnergyRow) (account : ℕ) where
       by false true = refl
       by false false = refl
 
-  -- the loop's end: the sums are those over the account's rows
-  pub sums-all : (i n : ℕ) {o : Own} {b : Bool} → Sums i o b → i ≡ n → HeldIs energy n account (record { own = o; any = b })
+  -- the loop's end: after the account's rows there is nothing more to add, and it has a row where the loop had a turn
+  pub sums-end : (a i : ℕ) {o : Own} {t : Bool} → Keeps accountOf n → Stands accountOf n account a → Sums i o → t ≡ atKey accountOf n account i → t ≡ false → HeldIs energy n account (record { own = o; any = ltb a i })
   unfolding ownEnergy
-  sums-all i n s e =
-      rw (← e)
-      (record {
+  sums-end a i k b s e h =
+      record {
         own = λ g l. λ j. record {
-          ace = (s .ace .each g l ∙ total-rows energy (λ r. eqb (r .account) account) (λ r. cond (eqb (r .region) g) (r .ace) 0) _ (swapped (λ r. r .ace) g) i) j;
-          asoe = (s .asoe .each g l ∙ total-rows energy (λ r. eqb (r .account) account) (λ r. cond (eqb (r .region) g) (r .asoe) 0) _ (swapped (λ r. r .asoe) g) i) j;
-          residual = (s .residual .each g l ∙ total-rows energy (λ r. eqb (r .account) account) (λ r. cond (eqb (r .region) g) (r .race + r .rasoe) 0) _ (swapped (λ r. r .race + r .rasoe) g) i) j;
+          ace = whole (λ r. r .ace) (s .ace) g l j;
+          asoe = whole (λ r. r .asoe) (s .asoe) g l j;
+          residual = whole (λ r. r .race + r .rasoe) (s .residual) g l j;
         };
-        any = s .any ∙ some-rows energy (λ r. eqb (r .account) account) i;
-      })
+        any = run-any accountOf n account a i b past ∙ some-rows energy (λ r. eqb (r .account) account) n;
+      }
+    where
+      past : Past accountOf n account i
+      past = run-over accountOf n account i k (s .run) (rw e at h)
+
+      whole : (f : EnergyRow → ℕ) {l : List ℕ} → Split 5 (regionOf energy) (mineOf f) i l → (g : ℕ) → g < 5 → getD l g 0 ≡ sumOf (λ r. cond (eqb (r .region) g) (f r) 0) (keep (λ r. eqb (r .account) account) (rowsOf energy n))
+      whole f d g l =
+          split-rest _ _ 5 i n (past .high) (behind-run accountOf n account _ i past) d .each g l
+          ∙ total-rows energy (λ r. eqb (r .account) account) (λ r. cond (eqb (r .region) g) (f r) 0) _ (swapped f g) n

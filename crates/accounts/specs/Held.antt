@@ -1,7 +1,7 @@
 -- What an account holds, as it is found by going over the energy rows. Only contracts of inner functions and the layer above speak of it.
 use Prim.Native.Nat.{ℕ, _+_, _≤_, _<_}
 use mathlib.Core.Path.{_≡_}
-use mathlib.Core.Bool.{Bool, cond, not}
+use mathlib.Core.Bool.{not}
 use mathlib.Core.List.{List}
 use lib.Dec.{eqb}
 use lib.ListN.{getD, set}
@@ -23,13 +23,12 @@ pub record Low (o : Own) (g : ℕ) : Type 0 where
   pub asoe : getD (o .asoe) g 0 ≤ 50000000000
   pub residual : getD (o .residual) g 0 ≤ 50000000000
 
--- x more at place g where t says so
-unfoldable pub plus : Bool → List ℕ → ℕ → ℕ → List ℕ
-plus t l g x = cond t (set l g (getD l g 0 + x)) l
+-- x more at place g
+abbrev pub plus : List ℕ → ℕ → ℕ → List ℕ
+plus l g x = set l g (getD l g 0 + x)
 
--- row r added to the sums o where it is the account's, and whether it is
-pub record Added (r : EnergyRow) (account : ℕ) (o x : Own) (b : Bool) : Type 0 where
-  pub ace : x .ace ≡ plus (eqb (r .account) account) (o .ace) (r .region) (r .ace)
-  pub asoe : x .asoe ≡ plus (eqb (r .account) account) (o .asoe) (r .region) (r .asoe)
-  pub residual : x .residual ≡ plus (eqb (r .account) account) (o .residual) (r .region) (r .race + r .rasoe)
-  pub mine : b ≡ eqb (r .account) account
+-- row r added to the sums o
+pub record Added (r : EnergyRow) (o x : Own) : Type 0 where
+  pub ace : x .ace ≡ plus (o .ace) (r .region) (r .ace)
+  pub asoe : x .asoe ≡ plus (o .asoe) (r .region) (r .asoe)
+  pub residual : x .residual ≡ plus (o .residual) (r .region) (r .race + r .rasoe)

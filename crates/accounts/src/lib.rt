@@ -4,11 +4,13 @@ ghost use mathlib.Core.Bool.{not};
 ghost use Prim.Native.Nat.{ℕ, _*_, _≤_, _<_};
 ghost use lib.Dec.{eqb};
 ghost use lib.ListN.{length};
+ghost use Rattle.sections.specs.Order.{Keeps};
 ghost use Rattle.records.specs.Rows.{energyRow, unitRow};
 ghost use Rattle.records.specs.Facts.{EnergyRule};
 ghost use Rattle.accounts.specs.Rows.{rowsOf, keep, none};
 ghost use Rattle.accounts.specs.Held.{Low, Added, HeldIs};
 use amounts::own::Own;
+use records::find;
 use records::rows;
 use records::rows::EnergyRow;
 use totals::entries;
@@ -19,42 +21,33 @@ pub struct Held {
     pub any: bool,
 }
 
-// A row of the account added to its region's sums; any other row leaves them.
-fn add_row(
-    ace: &mut [u64; 5],
-    asoe: &mut [u64; 5],
-    residual: &mut [u64; 5],
-    r: EnergyRow,
-    account: u32,
-) -> bool
+// A row added to its region's sums.
+fn add_row(ace: &mut [u64; 5], asoe: &mut [u64; 5], residual: &mut [u64; 5], r: EnergyRow)
     requires { ⌜ EnergyRule r ⌝ }
     requires { ⌜ Low (record { ace = now ace; asoe = now asoe; residual = now residual }) (r .region) ⌝ }
-    ensures { λ b. ⌜ Added r account (record { ace = now (ace .entry); asoe = now (asoe .entry); residual = now (residual .entry) }) (record { ace = now (ace .exit); asoe = now (asoe .exit); residual = now (residual .exit) }) b ⌝ }
+    ensures { λ _. ⌜ Added r (record { ace = now (ace .entry); asoe = now (asoe .entry); residual = now (residual .entry) }) (record { ace = now (ace .exit); asoe = now (asoe .exit); residual = now (residual .exit) }) ⌝ }
 {
-    if r.account != account {
-        return false;
-    }
     let g = r.region as usize;
     entries::bump(ace, g, r.ace as u64);
     entries::bump(asoe, g, r.asoe as u64);
     entries::bump(residual, g, (r.race as u64) + (r.rasoe as u64));
-    true
 }
 
-// The account's energy over the n energy rows, in one pass.
+// The account's energy over the n energy rows. They are sorted by account, so its own stand side by side, and only these are added.
 pub fn own_energy(energy: &[u8], n: usize, account: u32) -> Held
     requires { ⌜ (n * 24 ≤ length (now energy)) × (n ≤ 1024) ⌝ }
     requires { ⌜ ((i : ℕ) → i < n → EnergyRule (energyRow (now energy) i)) ⌝ }
+    requires { ⌜ Keeps (λ i. energyRow (now energy) i .account) n ⌝ }
     ensures { λ h. ⌜ HeldIs (energyRow (now (energy .entry))) n account h ⌝ }
 {
     let mut ace = [0u64; 5];
     let mut asoe = [0u64; 5];
     let mut residual = [0u64; 5];
-    let mut any = false;
-    let mut i = 0;
-    while i < n {
+    let first = find::first_from(energy, 24, n, account);
+    let mut i = first;
+    while find::has_key(energy, 24, n, i, account) {
         let r = rows::energy_row(energy, i);
-        any = any | add_row(&mut ace, &mut asoe, &mut residual, r, account);
+        add_row(&mut ace, &mut asoe, &mut residual, r);
         i += 1;
     }
     Held {
@@ -63,7 +56,7 @@ pub fn own_energy(energy: &[u8], n: usize, account: u32) -> Held
             asoe,
             residual,
         },
-        any,
+        any: first < i,
     }
 }
 
@@ -72,11 +65,12 @@ pub fn has_units(units: &[u8], m: usize, account: u32) -> bool
     requires { ⌜ m * 20 ≤ length (now units) ⌝ }
     ensures { λ b. ⌜ b ≡ not (none (keep (λ r. eqb (r .account) account) (rowsOf (unitRow (now (units .entry))) m))) ⌝ }
 {
-    let mut found = false;
     let mut i = 0;
     while i < m {
-        found = found | (rows::unit_row(units, i).account == account);
+        if rows::unit_row(units, i).account == account {
+            return true;
+        }
         i += 1;
     }
-    found
+    false
 }

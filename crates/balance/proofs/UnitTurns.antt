@@ -1,16 +1,16 @@
 -- The sums over a constraint's unit rows, turn by turn. Assumes nothing.
 use Prim.Native.Nat.{ℕ, _+_, _*_, _≤_, _<_}
-use mathlib.Core.Path.{_≡_, refl, subst, _∙_}
-use mathlib.Core.Bool.{Bool, true, false, cond}
+use mathlib.Core.Path.{_≡_, refl, ap}
+use mathlib.Core.Bool.{Bool, true, false}
 use native.Mathlib.Omega.{arith}
-use native.Mathlib.Numerals.{add-one}
-use borrow.Author.Tests.{eq-eqb, ne-eqb}
-use lib.Dec.{eqb}
 use Rattle.ground.specs.Round.{roundN}
 use Rattle.ground.proofs.Rounding.{round-share}
-use Rattle.sections.specs.Total.{total, keyed}
+use Rattle.sections.specs.Walk.{Stands, atKey}
+use Rattle.sections.proofs.Walk.{Run, run-start, run-next, run-over, at-key, sum-start, sum-more, sum-past}
 use Rattle.records.specs.Facts.{UnitRule}
 use Rattle.records.specs.declared.rows.UnitRow.{UnitRow}
+use Rattle.factors.specs.Naming.{keyOf}
+use Rattle.factors.specs.Runs.{Walked}
 use Rattle.balance.specs.Shapes.{plusBy, minusBy, unitRows, unitCredit, unitCharge}
 use Rattle.balance.specs.Units.{RowAdded, SumsAre}
 use Rattle.balance.specs.declared.kinds.Kind.{Kind}
@@ -36,51 +36,78 @@ minus-small Used q u = u .minus
 minus-small Unused q u = u .dcf
 minus-small Payment q u = omega arith
 
-module _ (t : UnitSums) (q : UnitRow) (id : ℕ) (kind : Kind) (pool : ℕ) where
-  pub other-row : (q .constraint ≡ id → ⊥) → RowAdded t q id kind pool t
-  other-row h =
-      let e = ne-eqb (q .constraint) id h in
-      record { rows = rw e (omega arith); credit = rw e (omega arith); charge = rw e (omega arith) }
-
-  pub own-row : {x y : ℕ} → q .constraint ≡ id → x ≡ roundN (pool * plusBy kind q) 1000000 → y ≡ roundN (pool * minusBy kind q) 1000000 → RowAdded t q id kind pool (record { rows = t .rows + 1; credit = t .credit + x; charge = t .charge + y })
-  own-row h a b =
-      let e = eq-eqb (q .constraint) id h in
-      record { rows = rw e refl; credit = rw (e, a) refl; charge = rw (e, b) refl }
-
--- ---- all rows
+-- ---- the constraint's rows
 
 module _ (unit : ℕ → UnitRow) (m id : ℕ) (kind : Kind) (pool : ℕ) where
-  pub sums-start : SumsAre unit m id kind pool 0 (record { rows = 0; credit = 0; charge = 0 })
-  unfolding unitRows unitCredit unitCharge total
-  sums-start =
+  -- how far the run of the constraint's rows is, and the sums so far
+  pub record Running (u : ℕ) (x : UnitSums) : Type 0 where
+    pub run : Run (keyOf unit) m id u
+    pub sums : SumsAre unit m id kind pool u x
+
+  -- before its rows there is nothing to add
+  pub running-start : (u : ℕ) → Stands (keyOf unit) m id u → Running u (record { rows = 0; credit = 0; charge = 0 })
+  unfolding unitRows unitCredit unitCharge
+  running-start u s =
       record {
-        within = omega arith;
-        rows = refl;
-        credit = refl;
-        charge = refl;
-        few = omega arith;
-        credit-small = omega arith;
-        charge-small = omega arith;
+        run = run-start _ m id u s;
+        sums = record {
+          within = s .high;
+          rows = sum-start _ m id _ u s;
+          credit = sum-start _ m id _ u s;
+          charge = sum-start _ m id _ u s;
+          few = omega arith;
+          credit-small = omega arith;
+          charge-small = omega arith;
+        };
       }
 
-  picked : (b : Bool) (x : ℕ) → cond b x 0 ≤ x
-  picked true x = omega arith
-  picked false x = omega arith
+  -- the loop's test holds of row u: it is there, and the constraint's
+  module _ (u : ℕ) {x : UnitSums} {t : Bool} (h : Running u x) (e : t ≡ atKey (keyOf unit) m id u) (a : t ≡ true) where
+    pub row-at : (u < m) × (keyOf unit u ≡ id)
+    row-at = at-key (keyOf unit) m id u (rw e at a)
 
-  pub sums-more : (u : ℕ) {t x : UnitSums} (q : UnitRow) → SumsAre unit m id kind pool u t → u < m → q ≡ unit u → UnitRule q → pool ≤ 50000000000 → RowAdded t q id kind pool x → SumsAre unit m id kind pool (u + 1) x
-  unfolding unitRows unitCredit unitCharge total keyed
-  sums-more u {t} {x} q s l e r p a =
+    -- q is row u
+    module _ {q : UnitRow} (i : q ≡ unit u) (w : Walked unit m) (small : pool ≤ 50000000000) where
+      row-rule : UnitRule q
+      row-rule = rw i (w .rules u (row-at .0))
+
+      pub row-room : UnitRule q × ((pool ≤ 50000000000) × ((x .rows < 600) × ((x .credit ≤ 30000000000000) × (x .charge ≤ 30000000000000))))
+      row-room =
+          let few = w .few in
+          let l = row-at .0 in
+          (row-rule, (small, omega (arith, h .sums .few, h .sums .credit-small, h .sums .charge-small)))
+
+      -- a turn: y has the sums with it
+      pub running-more : {y : UnitSums} → RowAdded x q kind pool y → Running (u + 1) y
+      unfolding unitRows unitCredit unitCharge
+      running-more p =
+          record {
+            run = run-next _ m id u (h .run) (row-at .0) (row-at .1);
+            sums = record {
+              within = omega (arith, row-at .0);
+              rows = rw (p .rows) (sum-more _ m id _ u (h .sums .rows) (row-at .1) refl);
+              credit = rw (p .credit) (sum-more _ m id _ u (h .sums .credit) (row-at .1) (ap (λ (q : UnitRow). roundN (pool * plusBy kind q) 1000000) i));
+              charge = rw (p .charge) (sum-more _ m id _ u (h .sums .charge) (row-at .1) (ap (λ (q : UnitRow). roundN (pool * minusBy kind q) 1000000) i));
+              few = omega (arith, p .rows, h .sums .few);
+              credit-small =
+                  omega (arith, p .credit, h .sums .credit-small, round-share pool (plusBy kind q) 1000000 (plus-small kind q row-rule));
+              charge-small =
+                  omega (arith, p .charge, h .sums .charge-small, round-share pool (minusBy kind q) 1000000 (minus-small kind q row-rule));
+            };
+          }
+
+  -- the loop's end: after its rows there is nothing more to add
+  pub running-end : (u : ℕ) {x : UnitSums} {t : Bool} → Walked unit m → Running u x → t ≡ atKey (keyOf unit) m id u → t ≡ false → SumsAre unit m id kind pool m x
+  unfolding unitRows unitCredit unitCharge
+  running-end u w h e a =
+      let p = run-over _ m id u (w .keep) (h .run) (rw e at a) in
+      let l = p .high in
       record {
         within = omega arith;
-        rows = rw add-one (a .rows ∙ rw (s .rows, e) refl);
-        credit = rw add-one (a .credit ∙ rw (s .credit, e) refl);
-        charge = rw add-one (a .charge ∙ rw (s .charge, e) refl);
-        few = omega (arith, a .rows, s .few, picked (eqb (q .constraint) id) 1);
-        credit-small =
-            omega (arith, a .credit, s .credit-small, picked (eqb (q .constraint) id) (roundN (pool * plusBy kind q) 1000000), round-share pool (plusBy kind q) 1000000 (plus-small kind q r));
-        charge-small =
-            omega (arith, a .charge, s .charge-small, picked (eqb (q .constraint) id) (roundN (pool * minusBy kind q) 1000000), round-share pool (minusBy kind q) 1000000 (minus-small kind q r));
+        rows = sum-past _ m id _ u (h .sums .rows) p;
+        credit = sum-past _ m id _ u (h .sums .credit) p;
+        charge = sum-past _ m id _ u (h .sums .charge) p;
+        few = omega (arith, h .sums .few);
+        credit-small = omega (arith, h .sums .credit-small);
+        charge-small = omega (arith, h .sums .charge-small);
       }
-
-  pub sums-all : (u : ℕ) {x : UnitSums} → SumsAre unit m id kind pool u x → m ≤ u → SumsAre unit m id kind pool m x
-  sums-all u {x} s h = subst (λ (z : ℕ). SumsAre unit m id kind pool z x) (omega (arith, s .within)) s

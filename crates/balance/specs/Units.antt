@@ -1,19 +1,17 @@
 -- The sums over a constraint's unit rows, row by row. Only contracts of inner functions speak of these.
 use Prim.Native.Nat.{ℕ, _+_, _*_, _≤_}
 use mathlib.Core.Path.{_≡_}
-use mathlib.Core.Bool.{cond}
-use lib.Dec.{eqb}
 use Rattle.ground.specs.Round.{roundN}
 use Rattle.records.specs.declared.rows.UnitRow.{UnitRow}
 use Rattle.balance.specs.Shapes.{plusBy, minusBy, unitRows, unitCredit, unitCharge}
 use Rattle.balance.specs.declared.kinds.Kind.{Kind}
 use Rattle.balance.specs.declared.units.UnitSums.{UnitSums}
 
--- row q added to the sums t where it is the constraint's
-pub record RowAdded (t : UnitSums) (q : UnitRow) (id : ℕ) (kind : Kind) (pool : ℕ) (x : UnitSums) : Type 0 where
-  pub rows : x .rows ≡ t .rows + cond (eqb (q .constraint) id) 1 0
-  pub credit : x .credit ≡ t .credit + cond (eqb (q .constraint) id) (roundN (pool * plusBy kind q) 1000000) 0
-  pub charge : x .charge ≡ t .charge + cond (eqb (q .constraint) id) (roundN (pool * minusBy kind q) 1000000) 0
+-- row q of the constraint added to the sums t
+pub record RowAdded (t : UnitSums) (q : UnitRow) (kind : Kind) (pool : ℕ) (x : UnitSums) : Type 0 where
+  pub rows : x .rows ≡ t .rows + 1
+  pub credit : x .credit ≡ t .credit + roundN (pool * plusBy kind q) 1000000
+  pub charge : x .charge ≡ t .charge + roundN (pool * minusBy kind q) 1000000
 
 -- the sums over the first u of the rows, and how large they can be
 pub record SumsAre (unit : ℕ → UnitRow) (m id : ℕ) (kind : Kind) (pool u : ℕ) (x : UnitSums) : Type 0 where

@@ -1,8 +1,8 @@
 -- The walk over the constraints, run after run: what is known of the rows taken so far stays true, and at the end all rows are taken.
 -- Assumes nothing.
 use Prim.Native.Nat.{ℕ, zero, suc, _+_, _≤_, _<_}
-use mathlib.Core.Path.{_≡_, refl, sym}
-use mathlib.Core.Bool.{Bool, true, false, not, _&&_, _||_}
+use mathlib.Core.Path.{_≡_, sym}
+use mathlib.Core.Bool.{true, not, _&&_}
 use mathlib.Core.Logic.{⊎-elim}
 use borrow.Author.Tests.{le-leb, eq-eqb, ne-eqb}
 use borrow.Author.Count.{below-none, below-more}
@@ -14,7 +14,7 @@ use Rattle.sections.specs.Order.{risesBy, Rises}
 use Rattle.sections.specs.Search.{some}
 use Rattle.sections.specs.Walk.{Under}
 use Rattle.sections.specs.Total.{total, keyed}
-use Rattle.sections.proofs.Search.{lt-or-ge}
+use Rattle.sections.proofs.Search.{some-here, lt-or-ge}
 use Rattle.sections.proofs.Total.{total-rest, keyed-hit, keyed-miss}
 use Rattle.records.specs.Rules.{unitTests, unitOk, unitBelow}
 use Rattle.records.specs.declared.rows.Constraint.{Constraint}
@@ -35,20 +35,6 @@ total-part f (suc n) i l =
     (λ (e : i ≡ n). rw e (omega arith))
     (λ (h : i < n). omega (arith, total-part f n i h))
     (eq-or-lt-of-le (le-of-suc-le-suc l))
-
--- a record that passes is found
-some-here : (p : ℕ → Bool) (n i : ℕ) → i < n → p i ≡ true → some p n ≡ true
-unfolding some
-some-here p zero i l e = absurd (not-suc-le-zero l)
-some-here p (suc n) i l e =
-    ⊎-elim
-    (λ (q : i ≡ n). or-right (some p n) (rw q at e))
-    (λ (h : i < n). rw (some-here p n i h e))
-    (eq-or-lt-of-le (le-of-suc-le-suc l))
-  where
-    or-right : (a : Bool) {b : Bool} → b ≡ true → (a || b) ≡ true
-    or-right true e = refl
-    or-right false e = e
 
 module _ (con : ℕ → Constraint) (n : ℕ) (row : ℕ → UnitRow) (m : ℕ) where
   -- the first j constraints and the rows before place u keep all rules, where only those rows count

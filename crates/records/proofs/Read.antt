@@ -1,6 +1,7 @@
 -- A record is the one at its place where each of its fields is. Assumes nothing.
 use Prim.Native.Nat.{ℕ, _+_, _*_, _≤_, _<_}
-use native.Mathlib.Nat.{le-trans, mul-le-mul-right}
+use native.Mathlib.Omega.{arith}
+use native.Mathlib.Nat.{suc-mul, le-trans, mul-le-mul-right}
 use native.Mathlib.Numerals.{add-one}
 use mathlib.Core.List.{List, [], _∷_}
 use mathlib.Core.Path.{_≡_}
@@ -40,3 +41,7 @@ contract-is s i r a b c d e = λ j. record { id = a j; kind = b j; spare = c j; 
 -- record i of n lies within the section
 pub slot : (i n k l : ℕ) → i < n → n * k ≤ l → (i + 1) * k ≤ l
 slot i n k l h g = rw add-one (le-trans (mul-le-mul-right k h) g)
+
+-- and so does its leading number
+pub lead-slot : (i n k l : ℕ) → i < n → (n * k ≤ l) × (4 ≤ k) → i * k + 4 ≤ l
+lead-slot i n k l h g = omega (arith, rw (add-one, suc-mul) at (slot i n k l h (g .0)))

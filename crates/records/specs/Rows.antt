@@ -10,6 +10,10 @@ use Rattle.records.specs.declared.rows.UnitRow.{UnitRow}
 use Rattle.records.specs.declared.rows.EnergyRow.{EnergyRow}
 use Rattle.records.specs.declared.rows.Contract.{Contract}
 
+-- the leading number of record i, where a record has this size: a section's records are sorted by it first
+abbrev pub leadAt : List ℕ → ℕ → ℕ → ℕ
+leadAt s size i = u32At s (i * size)
+
 -- "Five region entries, 12 bytes: total ACE, total ASOE, residual total"
 unfoldable pub entryRow : List ℕ → ℕ → Entry
 entryRow s i =

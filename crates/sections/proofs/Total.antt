@@ -99,6 +99,14 @@ module _ (key : ℕ → ℕ) (k : ℕ) (f : ℕ → ℕ) where
   unfolding keyed
   keyed-miss i e = rw (ne-eqb _ _ e)
 
+  pub keyed-none : (i : ℕ) → f i ≡ 0 → keyed key k f i ≡ 0
+  unfolding keyed
+  keyed-none i e = by (eqb (key i) k)
+    where
+      by : (t : Bool) → cond t (f i) 0 ≡ 0
+      by true = e
+      by false = refl
+
   pub keyed-le : (b i : ℕ) → f i ≤ b → keyed key k f i ≤ b
   unfolding keyed
   keyed-le b i h = by (eqb (key i) k)

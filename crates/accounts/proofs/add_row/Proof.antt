@@ -1,11 +1,7 @@
--- `accounts::add_row` meets its contract. The row's account decides the case. Assumes nothing.
+-- `accounts::add_row` meets its contract. Each of the three sums gets its number. Assumes nothing.
 use borrow.Author.Needs.{needs}
-use Rattle.accounts.proofs.Turns.{added-none, added-own}
 use Rattle.accounts.proofs.add_row.Statement.{statement}
 use Rattle.accounts.proofs.add_row.Tie as tie
-
-returns : tie.Need-returns
-returns c = added-none _ _ _ (c .if1 .taken)
 
 cast-g : tie.Need-cast-g
 cast-g c = search needs
@@ -34,14 +30,13 @@ add-bump c = search needs
 bump-requires-3 : tie.Need-bump-requires-3
 bump-requires-3 c κs = search needs
 
-returns-2 : tie.Need-returns-2
-returns-2 c = added-own _ _ _ _ (c .before .before .before .before .before .before .before .before .before .before .before .if1 .left) (c .before .before .before .before .before .before .before .bump .ensures) (c .before .before .before .before .bump2 .ensures) (c .bump3 .ensures)
+returns : tie.Need-returns
+returns c = record { ace = c .before .before .before .before .before .before .before .bump .ensures; asoe = c .before .before .before .before .bump2 .ensures; residual = c .bump3 .ensures }
 
 pub add-row-spec : {M : Type 1} → statement M
 add-row-spec =
     tie.close
     (tie.spec
-    returns
     cast-g
     cast-bump
     bump-requires
@@ -51,4 +46,4 @@ add-row-spec =
     cast-bump-4
     add-bump
     bump-requires-3
-    returns-2)
+    returns)

@@ -1,43 +1,49 @@
 -- `accounts::own_energy` meets its contract. The invariant, `Sums`: each place has the sum of its region over the account's rows so far. The measure is what is left. Assumes nothing.
-use Prim.Native.Nat.{_≤_, _-_}
+use Prim.Native.Nat.{_-_}
 use native.Mathlib.Omega.{arith}
-use borrow.Author.Needs.{needs}
-use Rattle.records.specs.Facts.{EnergyRule}
 use Rattle.records.specs.Rows.{energyRow}
-use Rattle.accounts.proofs.Turns.{Sums, sums-none, sums-more, sums-low, sums-all}
+use Rattle.accounts.proofs.Turns.{Sums, sums-start, own-at, own-room, sums-more, sums-end}
 use Rattle.accounts.proofs.own_energy.Statement.{statement}
 use Rattle.accounts.proofs.own_energy.Tie as tie
 
 abbrev Inv-loop : tie.InvT-loop
-Inv-loop energy n account ace₀ asoe₀ residual₀ any₀ i₀ ace asoe residual any i = (i ≤ n) × Sums (energyRow energy) account i (record { ace = ace; asoe = asoe; residual = residual }) any
+Inv-loop energy n account ace₀ asoe₀ residual₀ first i₀ ace asoe residual i = Sums (energyRow energy) n account i (record { ace = ace; asoe = asoe; residual = residual })
 
 abbrev μ-loop : tie.MeasureT-loop
-μ-loop energy n account ace₀ asoe₀ residual₀ any₀ i₀ ace asoe residual any i = n - i
+μ-loop energy n account ace₀ asoe₀ residual₀ first i₀ ace asoe residual i = n - i
+
+first-from-requires : tie.Need-first-from-requires Inv-loop μ-loop
+unfolding energyRow
+first-from-requires c κs = (omega arith, c .before .pre .1 .1)
 
 loop-holds : tie.Need-loop-holds Inv-loop μ-loop
-loop-holds c = (search needs, sums-none _ _)
+unfolding energyRow
+loop-holds c = sums-start (energyRow (c .before .before .args .energy .now)) _ _ _ (c .first-from .ensures)
+
+has-key-requires : tie.Need-has-key-requires Inv-loop μ-loop
+has-key-requires c κs = omega arith
 
 energy-row-requires : tie.Need-energy-row-requires Inv-loop μ-loop
-energy-row-requires c κs = search needs
+unfolding energyRow
+energy-row-requires c κs = omega (arith, own-at (energyRow (c .before .before .before .before .before .args .energy .now)) _ _ _ (c .before .before .loop .inv) (c .before .has-key .ensures) (c .if1 .taken) .0)
 
 add-row-requires : tie.Need-add-row-requires Inv-loop μ-loop
-add-row-requires c κs =
-    let q : EnergyRule (c .before .before .before .energy-row .result) = rw (c .before .before .before .energy-row .ensures) (c .before .before .before .before .before .before .before .pre .1 _ (c .before .before .before .before .loop-test .taken)) in
-    (q, sums-low _ _ _ _ (c .before .before .before .before .before .before .before .pre .0 .1) (c .before .before .before .before .before .before .before .pre .1) (c .before .before .before .before .before .loop .inv .0) (c .before .before .before .before .before .loop .inv .1) (c .before .before .before .energy-row .result .region) (omega (arith, q .region)))
-
-add-i : tie.Need-add-i Inv-loop μ-loop
-add-i c = omega (arith, c .before .before .before .before .before .before .before .before .pre .0 .1)
-
-loop-less : tie.Need-loop-less Inv-loop μ-loop
-loop-less c = search needs
+unfolding energyRow
+add-row-requires c κs = own-room (energyRow (c .before .before .before .before .before .before .before .before .before .args .energy .now)) _ _ _ (c .before .before .before .before .before .before .loop .inv) (c .before .before .before .before .before .has-key .ensures) (c .before .before .before .before .if1 .taken) (c .before .before .before .energy-row .ensures) (c .before .before .before .before .before .before .before .before .before .pre .1 .0) (c .before .before .before .before .before .before .before .before .before .pre .0 .1)
 
 loop-again : tie.Need-loop-again Inv-loop μ-loop
-loop-again c =
-    let q : EnergyRule (c .before .before .before .before .energy-row .result) = rw (c .before .before .before .before .energy-row .ensures) (c .before .before .before .before .before .before .before .before .pre .1 _ (c .before .before .before .before .before .loop-test .taken)) in
-    (search needs, sums-more _ _ _ (c .before .before .before .before .before .before .loop .inv .1) (c .before .before .before .before .energy-row .ensures) q (c .add-row .ensures))
+unfolding energyRow
+loop-again c = sums-more (energyRow (c .before .before .before .before .before .before .before .before .before .before .args .energy .now)) _ _ _ (c .before .before .before .before .before .before .before .loop .inv) (c .before .before .before .before .before .before .has-key .ensures) (c .before .before .before .before .before .if1 .taken) (c .before .before .before .before .energy-row .ensures) (c .before .before .before .before .before .before .before .before .before .before .pre .1 .0) (c .add-row .ensures)
+
+add-i : tie.Need-add-i Inv-loop μ-loop
+add-i c = omega (arith, loop-again c .run .high)
+
+loop-less : tie.Need-loop-less Inv-loop μ-loop
+loop-less c = omega (arith, loop-again c .run .high)
 
 returns : tie.Need-returns Inv-loop μ-loop
-returns c = sums-all _ _ _ _ (c .before .loop .inv .1) (omega arith)
+unfolding energyRow
+returns c = sums-end (energyRow (c .before .before .before .before .before .args .energy .now)) _ _ _ _ (c .before .before .before .before .before .pre .1 .1) (c .before .before .before .first-from .ensures) (c .before .before .loop .inv) (c .before .has-key .ensures) (c .if1 .left)
 
 pub own-energy-spec : {M : Type 1} → statement M
 own-energy-spec =
@@ -45,7 +51,9 @@ own-energy-spec =
     (tie.spec
     Inv-loop
     μ-loop
+    first-from-requires
     loop-holds
+    has-key-requires
     energy-row-requires
     add-row-requires
     add-i

@@ -25,7 +25,7 @@ cast-own-energy : tie.Need-cast-own-energy
 cast-own-energy c = search needs
 
 own-energy-requires : tie.Need-own-energy-requires
-own-energy-requires c κs = ((energies-room _ _ (c .before .before .before .before .before .before .pre .0) _ (c .before .before .energies-at .ensures), c .before .before .before .before .before .before .pre .0 .few .energies), rw (c .before .before .energies-at .ensures) (c .before .before .before .before .before .before .pre .1 .fields .energies))
+own-energy-requires c κs = ((energies-room _ _ (c .before .before .before .before .before .before .pre .0) _ (c .before .before .energies-at .ensures), c .before .before .before .before .before .before .pre .0 .few .energies), (rw (c .before .before .energies-at .ensures) (c .before .before .before .before .before .before .pre .1 .fields .energies), rw (c .before .before .energies-at .ensures) (record { keep = c .before .before .before .before .before .before .pre .1 .ordered .energies .first })))
 
 test-and-write-requires : tie.Need-test-and-write-requires
 test-and-write-requires c κs = (c .before .before .before .before .before .before .before .before .before .before .pre .0, (c .before .before .before .before .before .before .before .before .before .before .pre .1, owned-held (bookIn (c .before .before .before .before .before .before .before .before .before .before .args .book .now) (c .before .before .before .before .before .before .before .before .before .before .args .h)) _ (c .before .before .before .before .before .before .before .before .before .before .pre .1) (rw (c .before .before .before .before .before .before .energies-at .ensures) at (c .before .before .before .own-energy .ensures)) (c .before .if1 .taken)))

@@ -32,7 +32,7 @@ cast-unit-sums : tie.Need-cast-unit-sums
 cast-unit-sums c = search needs
 
 unit-sums-requires : tie.Need-unit-sums-requires
-unit-sums-requires c κs = ((units-room _ _ (c .before .before .before .before .before .pre .0) _ (c .before .before .units-at .ensures), (c .before .before .before .before .before .pre .1 .0 .few .units, recovery-small _ _ (constraint-rule (c .before .before .before .before .before .pre .1 .0) _ (c .before .before .before .before .before .pre .1 .1 .0)) (c .before .before .before .recovery-of .ensures) .pool)), rw (c .before .before .units-at .ensures) (c .before .before .before .before .before .pre .1 .0 .fields .units))
+unit-sums-requires c κs = ((units-room _ _ (c .before .before .before .before .before .pre .0) _ (c .before .before .units-at .ensures), recovery-small _ _ (constraint-rule (c .before .before .before .before .before .pre .1 .0) _ (c .before .before .before .before .before .pre .1 .1 .0)) (c .before .before .before .recovery-of .ensures) .pool), rw (c .before .before .units-at .ensures) (record { few = c .before .before .before .before .before .pre .1 .0 .few .units; rules = c .before .before .before .before .before .pre .1 .0 .fields .units; keep = record { keep = c .before .before .before .before .before .pre .1 .0 .ordered .units .first } }))
 
 sub-divisor : tie.Need-sub-divisor
 sub-divisor c = search needs
