@@ -1,10 +1,13 @@
 -- What is credited less what is charged is the signed product, rounded with its sign kept: 01's "round(pool x factor / 1,000,000)" and
 -- "round(pool x own / total)" for numbers of either sign. Assumes nothing.
-use Prim.Native.Nat.{ℕ, _*_}
-use mathlib.Core.Path.{_≡_, sym, ap, _∙_}
-use mathlib.Core.Bool.{true, false}
+use Prim.Native.Nat.{ℕ, _+_, _*_, _≤_}
+use mathlib.Core.Path.{_≡_, refl, sym, subst, ap, _∙_}
+use mathlib.Core.Bool.{Bool, true, false, _||_}
+use borrow.Author.Tests.{eqb-true}
+use lib.Dec.{T, eqb}
 use lib.IntN.{pos, negℤ, +ℤ-idl, +ℤ-idr}
-use native.Mathlib.Nat.{mul-zero, zero-mul}
+use native.Mathlib.Nat.{mul-zero, zero-mul, zero-add, add-zero}
+use native.Mathlib.Omega.{arith}
 use Rattle.ground.specs.Round.{roundN, roundZ}
 use Rattle.ground.specs.Sign.{signed, less}
 use Rattle.ground.proofs.Rounding.{round-zero, round-signed}
@@ -21,11 +24,17 @@ charge-only a = +ℤ-idl (negℤ (pos a))
 none-of : (n d : ℕ) → n ≡ 0 → roundN n d ≡ 0
 none-of n d e = ap (λ (k : ℕ). roundN k d) e ∙ round-zero d
 
+less-none : (a n d : ℕ) → n ≡ 0 → less (roundN a d) (roundN n d) ≡ pos (roundN a d)
+less-none a n d e = ap (less (roundN a d)) (none-of n d e) ∙ credit-only (roundN a d)
+
+none-less : (a n d : ℕ) → n ≡ 0 → less (roundN n d) (roundN a d) ≡ negℤ (pos (roundN a d))
+none-less a n d e = ap (λ (k : ℕ). less k (roundN a d)) (none-of n d e) ∙ charge-only (roundN a d)
+
 credited : (a n d : ℕ) → n ≡ 0 → less (roundN a d) (roundN n d) ≡ roundZ (signed false a) d
-credited a n d e = ap (less (roundN a d)) (none-of n d e) ∙ credit-only (roundN a d)
+credited a n d e = less-none a n d e
 
 charged : (a n d : ℕ) → n ≡ 0 → less (roundN n d) (roundN a d) ≡ roundZ (signed true a) d
-charged a n d e = ap (λ (k : ℕ). less k (roundN a d)) (none-of n d e) ∙ charge-only (roundN a d) ∙ sym (round-signed true a d)
+charged a n d e = none-less a n d e ∙ sym (round-signed true a d)
 
 pub factor-above : (pool plus : ℕ) → byFactor pool plus 0 ≡ roundZ (signed false (pool * plus)) 1000000
 unfolding byFactor
@@ -42,3 +51,21 @@ credit-shared credit own total = credited (credit * own) (0 * own) total (zero-m
 pub charge-shared : (charge own total : ℕ) → byEnergy 0 charge own total ≡ roundZ (signed true (charge * own)) total
 unfolding byEnergy
 charge-shared charge own total = charged (charge * own) (0 * own) total (zero-mul own)
+
+-- a pool of one side at most is no larger than that side, and its part is one rounded share with the side's sign
+pub side-small : (credit charge m : ℕ) → (eqb credit 0 || eqb charge 0) ≡ true → credit ≤ m → charge ≤ m → credit + charge ≤ m
+side-small credit charge m t h k = by (eqb credit 0) refl (eqb charge 0) refl t
+  where
+    by : (x : Bool) → eqb credit 0 ≡ x → (y : Bool) → eqb charge 0 ≡ y → (x || y) ≡ true → credit + charge ≤ m
+    by true e y f t = omega (arith, eqb-true credit 0 e)
+    by false e true f t = omega (arith, eqb-true charge 0 f)
+    by false e false f t = absurd (subst T (sym t) tt)
+
+pub side-shared : (credit charge own total : ℕ) → (eqb credit 0 || eqb charge 0) ≡ true → signed (eqb credit 0) (roundN ((credit + charge) * own) total) ≡ byEnergy credit charge own total
+unfolding byEnergy
+side-shared credit charge own total t = by (eqb credit 0) refl (eqb charge 0) refl t
+  where
+    by : (x : Bool) → eqb credit 0 ≡ x → (y : Bool) → eqb charge 0 ≡ y → (x || y) ≡ true → signed x (roundN ((credit + charge) * own) total) ≡ byEnergy credit charge own total
+    by true e y f t = rw (eqb-true credit 0 e, zero-add) (sym (none-less (charge * own) (0 * own) total (zero-mul own)))
+    by false e true f t = rw (eqb-true charge 0 f, add-zero) (sym (less-none (credit * own) (0 * own) total (zero-mul own)))
+    by false e false f t = absurd (subst T (sym t) tt)

@@ -5,15 +5,15 @@ ghost use Prim.Native.Nat.{_*_, _≤_, _<_};
 ghost use Rattle.ground.specs.Round.{roundN};
 ghost use Rattle.ground.specs.Sign.{less};
 ghost use Rattle.amounts.specs.Shares.{byFactor, byEnergy};
-use ground::round;
 use ground::sign;
 
-// pool x own / total, to the nearest.
+// pool x own / total, to the nearest. Half of the divisor is added first, which fits, since pools and totals are small: one division and
+// no test, where quotient and remainder take a division or a product more.
 pub fn share(pool: u64, own: u64, total: u64) -> u64
     requires { ⌜ (pool ≤ 50000000000) × ((own ≤ total) × ((0 < total) × (total ≤ 100000000))) ⌝ }
     ensures { λ r. ⌜ r ≡ roundN (pool * own) total ⌝ }
 {
-    round::nearest(pool * own, total)
+    (pool * own + total / 2) / total
 }
 
 // What is credited less what is charged: of one line, or summed over lines.
@@ -35,10 +35,14 @@ pub fn by_factor(pool: u64, plus: u32, minus: u32) -> i64
     )
 }
 
-// An account's part of a pool by its energy. The pool itself is a credit or a charge.
+// An account's part of a pool by its energy. The pool itself is a credit or a charge: as a rule it has one side, and is then divided
+// once, by one test and no branch on the sign, which is hard to foresee.
 pub fn by_energy(credit: u64, charge: u64, own: u64, total: u64) -> i64
     requires { ⌜ (credit ≤ 50000000000) × ((charge ≤ 50000000000) × ((own ≤ total) × ((0 < total) × (total ≤ 100000000)))) ⌝ }
     ensures { λ r. ⌜ r ≡ byEnergy credit charge own total ⌝ }
 {
+    if (credit == 0) | (charge == 0) {
+        return sign::signed(credit == 0, share(credit + charge, own, total));
+    }
     net(share(credit, own, total), share(charge, own, total))
 }

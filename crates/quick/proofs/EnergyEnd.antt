@@ -18,7 +18,7 @@ use Rattle.records.specs.declared.rows.Entry.{Entry}
 use Rattle.records.specs.declared.rows.EnergyRow.{EnergyRow}
 use Rattle.totals.specs.Sums.{regionOf, aceOf, asoeOf, entryTests}
 use Rattle.totals.specs.declared.entries.Totals.{Totals}
-use Rattle.totals.proofs.Turns.{entry-is-at}
+use Rattle.totals.proofs.Turns.{entry-is-at, five}
 use Rattle.quick.specs.Holds.{EnergiesHold}
 use Rattle.quick.specs.Energies.{RowHolds, SummedIs, EntryHolds}
 
@@ -44,15 +44,6 @@ fields-of r h a b =
     let low = h .region in
     all (energyTests r)
     (le-leb 1 (r .account) (omega arith), (le-leb (r .region) 4 low, (eq-eqb (r .spare) 0 (h .spare), (le-leb (r .ace) 20000000 a, (le-leb (r .asoe) 20000000 b, (le-leb (r .race) (r .ace) (h .race), (le-leb (r .rasoe) (r .asoe) (h .rasoe), tt)))))))
-
--- what holds of each of the five regions
-five : (P : ℕ → Type 0) → P 0 → P 1 → P 2 → P 3 → P 4 → (g : ℕ) → g < 5 → P g
-five P a b c d e zero l = a
-five P a b c d e (suc zero) l = b
-five P a b c d e (suc (suc zero)) l = c
-five P a b c d e (suc (suc (suc zero))) l = d
-five P a b c d e (suc (suc (suc (suc zero)))) l = e
-five P a b c d e (suc (suc (suc (suc (suc g))))) l = absurd (omega arith)
 
 module _ (energy : ℕ → EnergyRow) (n : ℕ) (entry : ℕ → Entry) where
   -- each entry has its region's sums

@@ -1,11 +1,14 @@
--- How long a statement's bytes are, and how writers in a row make one: line after line, header and lines. Assumes nothing.
-use Prim.Native.Nat.{ℕ, _+_, _*_}
-use mathlib.Core.Path.{_≡_, refl}
+-- How long a statement's bytes are, a line's names as one number, and how writers in a row make one: line after line, header and lines.
+-- Assumes nothing.
+use Prim.Native.Nat.{ℕ, _+_, _*_, _^_, _<_}
+use mathlib.Core.Path.{_≡_, refl, ap, ap₂, _∙_}
 use mathlib.Core.List.{List, [], _∷_, _++_, append-assoc, append-nil}
 use native.Mathlib.Omega.{arith}
+use native.Mathlib.Nat.{mod-eq-of-lt}
 use lib.ListN.{length, length-append}
-use Rattle.ground.specs.Le.{le16, le32, le64, int64}
+use Rattle.ground.specs.Le.{bytesOf, le16, le32, le64, int64}
 use Rattle.ground.specs.Put.{Wrote}
+use Rattle.ground.proofs.Le.{bytes-above}
 use Rattle.ground.proofs.Put.{wrote-none, wrote-more}
 use Rattle.statement.specs.declared.Heading.{Heading}
 use Rattle.statement.specs.declared.Line.{Line}
@@ -29,6 +32,23 @@ lines-length (l ∷ ls) = rw (length-append, line-length l, lines-length ls) (om
 pub statement-length : (h : Heading) (ls : List Line) → length (statementBytes h ls) ≡ 24 + 24 * length ls
 unfolding statementBytes
 statement-length h ls = rw (length-append, heading-length h, lines-length ls)
+
+-- ---- a line's first 8 bytes, as one number
+
+one-byte : (x : ℕ) → x < 256 → bytesOf 1 x ≡ x ∷ []
+one-byte x h = rw (mod-eq-of-lt h)
+
+-- a byte, and what stands above it
+byte-above : (n x r : ℕ) → x < 256 → bytesOf (1 + n) (x + 256 * r) ≡ x ∷ bytesOf n r
+byte-above n x r h = bytes-above 1 n x r h ∙ ap (λ (l : List ℕ). l ++ bytesOf n r) (one-byte x h)
+
+pub names-bytes : (id p r : ℕ) → id < 2 ^ 32 → p < 256 → r < 256 → le64 (id + 4294967296 * p + 1099511627776 * r) ≡ le32 id ++ (p ∷ []) ++ (r ∷ []) ++ le16 0
+unfolding le16 le32 le64
+names-bytes id p r h k l =
+    let e : id + 4294967296 * p + 1099511627776 * r ≡ id + 256 ^ 4 * (p + 256 * (r + 256 * 0)) = omega arith in
+    ap (bytesOf 8) e
+    ∙ bytes-above 4 4 id (p + 256 * (r + 256 * 0)) h
+    ∙ ap (λ (l : List ℕ). bytesOf 4 id ++ l) (byte-above 3 p (r + 256 * 0) k ∙ ap (λ (l : List ℕ). p ∷ l) (byte-above 2 r 0 l))
 
 -- ---- lines joined to lines
 

@@ -77,15 +77,16 @@ pub fn put_heading(buf: &mut [u8], h: Heading) -> usize
     24
 }
 
-// The first 8 bytes of a line: what the amount is for.
+// The first 8 bytes of a line: what the amount is for. Written as one number, so that they are one store.
 fn put_names(buf: &mut [u8], at: usize, id: u32, part: u8, regions: u8)
     requires { ⌜ at + 8 ≤ length (now buf) ⌝ }
     ensures { λ _. ⌜ now (buf .exit) ≡ put (now (buf .entry)) at (le32 id ++ (part ∷ []) ++ (regions ∷ []) ++ le16 0) ⌝ }
 {
-    write::put_u32(buf, at, id);
-    write::put_u8(buf, at + 4, part);
-    write::put_u8(buf, at + 5, regions);
-    write::put_u16(buf, at + 6, 0);
+    write::put_u64(
+        buf,
+        at,
+        (id as u64) + 4294967296 * (part as u64) + 1099511627776 * (regions as u64),
+    );
 }
 
 // A line, at a place of the buffer.

@@ -1,10 +1,11 @@
--- The region sums turn by turn, the test of an entry, and the sum over a mask. Assumes nothing.
-use Prim.Native.Nat.{ℕ, _+_, _/_, _%_, _^_, _≤_, _<_}
-use mathlib.Core.Path.{_≡_, ap, _∙_}
-use mathlib.Core.Bool.{Bool, true, false, cond}
+-- The region sums turn by turn, the test of an entry, the sum over a mask, and the entries of a book as totals. Assumes nothing.
+use Prim.Native.Nat.{ℕ, zero, suc, _+_, _/_, _%_, _^_, _≤_, _<_}
+use mathlib.Core.Path.{_≡_, sym, subst, ap, _∙_}
+use mathlib.Core.Bool.{Bool, true, false, not, cond}
 use native.Mathlib.Omega.{arith}
 use lib.Dec.{eqb}
 use lib.ListN.{getD, set, replicate}
+use Rattle.sections.proofs.Total.{total-same}
 use Rattle.sections.proofs.Groups.{split-none, split-more, split-bound}
 use Rattle.records.specs.Kinds.{raises, regulates, bitSet}
 use Rattle.records.specs.Facts.{EntryRule, EnergyRule}
@@ -13,7 +14,8 @@ use Rattle.records.specs.declared.rows.Constraint.{Constraint}
 use Rattle.records.specs.declared.rows.EnergyRow.{EnergyRow}
 use Rattle.totals.specs.Sums.{entryIs, entryAt}
 use Rattle.totals.specs.Turns.{TotalsOf}
-use Rattle.totals.specs.Divisors.{basisOf, shareOf}
+use Rattle.totals.specs.Divisors.{basisOf, shareOf, divisorOf, constraintDivides}
+use Rattle.totals.specs.Totals.{entryOf}
 use Rattle.totals.specs.declared.entries.Totals.{Totals}
 
 -- one row more in its region's sums
@@ -65,3 +67,29 @@ share-small r e g h = by (bitSet (r .mask) g) (regulates (r .service)) (raises (
     by true false true = h .asoe
     by true false false = h .ace
     by false y z = omega arith
+
+-- what holds of each of the five regions
+pub five : (P : ℕ → Type 0) → P 0 → P 1 → P 2 → P 3 → P 4 → (g : ℕ) → g < 5 → P g
+five P a b c d e zero l = a
+five P a b c d e (suc zero) l = b
+five P a b c d e (suc (suc zero)) l = c
+five P a b c d e (suc (suc (suc zero))) l = d
+five P a b c d e (suc (suc (suc (suc zero)))) l = e
+five P a b c d e (suc (suc (suc (suc (suc g))))) l = absurd (omega arith)
+
+-- a total to divide by depends on the five entries alone
+pub divisor-same : (f h : ℕ → Entry) (r : Constraint) → ((g : ℕ) → g < 5 → f g ≡ h g) → divisorOf f r ≡ divisorOf h r
+divisor-same f h r e = total-same _ _ 5 (λ g l. ap (λ (x : Entry). shareOf r x g) (e g l))
+
+-- totals that are the entries of a book
+module _ (t : Totals) (entry : ℕ → Entry) (e : (g : ℕ) → g < 5 → entryOf t g ≡ entry g) where
+  pub totals-rule : ((g : ℕ) → g < 5 → EntryRule (entry g)) → (g : ℕ) → g < 5 → EntryRule (entryOf t g)
+  totals-rule h g l = subst EntryRule (sym (e g l)) (h g l)
+
+  pub divisor-read : (r : Constraint) {x : ℕ} → x ≡ divisorOf (entryOf t) r → x ≡ divisorOf entry r
+  divisor-read r q = q ∙ divisor-same (entryOf t) entry r e
+
+  -- the test of check 10
+  pub divides-at : (con : ℕ → Constraint) (j : ℕ) {r : Constraint} {x : ℕ} → r ≡ con j → x ≡ divisorOf (entryOf t) r → not (eqb x 0) ≡ constraintDivides entry con j
+  unfolding constraintDivides
+  divides-at con j {r} d q = rw (divisor-read r q, d)

@@ -1,3 +1,4 @@
 pub mod Sums
 pub mod Turns
 pub mod Divisors
+pub mod Totals

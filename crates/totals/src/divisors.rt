@@ -5,37 +5,91 @@ ghost use lib.ListN.{length};
 ghost use Rattle.sections.specs.First.{firstBad};
 ghost use Rattle.records.specs.Rows.{entryRow, constraintRow, contractRow};
 ghost use Rattle.records.specs.Facts.{EntryRule};
+ghost use Rattle.totals.specs.Totals.{entryOf};
 ghost use Rattle.totals.specs.Divisors.{basisOf, shareOf, divisorOf, constraintDivides, fundedIn, contractDivides};
+use crate::entries::Totals;
 use records::kinds::Region;
 use records::kinds::Service;
 use records::rows;
 use records::rows::Constraint;
-use records::rows::Entry;
 use sections::Checked;
 
-// Which of a region's totals a constraint's cost is shared by.
-fn basis(r: Constraint, e: Entry) -> u32
-    ensures { λ x. ⌜ x ≡ basisOf r e ⌝ }
+// By which energy a constraint's cost is shared.
+fn basis(r: Constraint, t: Totals, g: usize) -> u64
+    requires { ⌜ g < 5 ⌝ }
+    ensures { λ x. ⌜ x ≡ basisOf r (entryOf t g) ⌝ }
 {
+    let ace = t.ace;
+    let asoe = t.asoe;
+    let residual = t.residual;
     if Service::of(r.service).is_regulation() {
-        return e.residual;
+        return residual[g];
     }
     if Service::of(r.service).is_raise() {
-        e.asoe
+        asoe[g]
     } else {
-        e.ace
+        ace[g]
     }
 }
 
-// What region g counts for in the total that a constraint divides by.
-fn share(r: Constraint, e: Entry, g: u8) -> u32
+// What region g counts for over a constraint's regions.
+fn counted(r: Constraint, t: Totals, g: usize) -> u64
     requires { ⌜ g < 5 ⌝ }
-    ensures { λ x. ⌜ x ≡ shareOf r e g ⌝ }
+    ensures { λ x. ⌜ x ≡ shareOf r (entryOf t g) g ⌝ }
 {
-    if Region::of(g).is_in(r.mask) {
-        basis(r, e)
+    if Region::of(g as u8).is_in(r.mask) {
+        basis(r, t, g)
     } else {
         0
+    }
+}
+
+// The energy over a constraint's regions, of the kind that its cost is shared by: an account's, or that of all.
+pub fn over_regions(t: Totals, r: Constraint) -> u64
+    requires { ⌜ ((g : ℕ) → g < 5 → EntryRule (entryOf t g)) ⌝ }
+    ensures { λ x. ⌜ x ≡ divisorOf (entryOf t) r ⌝ }
+{
+    let mut sum: u64 = 0;
+    let mut g = 0;
+    while g < Region::COUNT {
+        sum += counted(r, t, g);
+        g += 1;
+    }
+    sum
+}
+
+// The five region entries, so that they are read once and not for each constraint.
+pub fn totals_of(regions: &[u8]) -> Totals
+    requires { ⌜ 60 ≤ length (now regions) ⌝ }
+    ensures { λ t. ⌜ ((g : ℕ) → g < 5 → entryOf t g ≡ entryRow (now (regions .entry)) g) ⌝ }
+{
+    let a = rows::entry_row(regions, 0);
+    let b = rows::entry_row(regions, 1);
+    let c = rows::entry_row(regions, 2);
+    let d = rows::entry_row(regions, 3);
+    let e = rows::entry_row(regions, 4);
+    Totals {
+        ace: [
+            a.ace as u64,
+            b.ace as u64,
+            c.ace as u64,
+            d.ace as u64,
+            e.ace as u64,
+        ],
+        asoe: [
+            a.asoe as u64,
+            b.asoe as u64,
+            c.asoe as u64,
+            d.asoe as u64,
+            e.asoe as u64,
+        ],
+        residual: [
+            a.residual as u64,
+            b.residual as u64,
+            c.residual as u64,
+            d.residual as u64,
+            e.residual as u64,
+        ],
     }
 }
 
@@ -45,21 +99,7 @@ pub fn divisor(regions: &[u8], r: Constraint) -> u64
     requires { ⌜ ((g : ℕ) → g < 5 → EntryRule (entryRow (now regions) g)) ⌝ }
     ensures { λ x. ⌜ x ≡ divisorOf (entryRow (now (regions .entry))) r ⌝ }
 {
-    let mut sum: u64 = 0;
-    let mut g = 0;
-    while g < Region::COUNT {
-        sum += share(r, rows::entry_row(regions, g), g as u8) as u64;
-        g += 1;
-    }
-    sum
-}
-
-fn constraint_divides(regions: &[u8], cons: &[u8], j: usize) -> bool
-    requires { ⌜ (60 ≤ length (now regions)) × ((j + 1) * 40 ≤ length (now cons)) ⌝ }
-    requires { ⌜ ((g : ℕ) → g < 5 → EntryRule (entryRow (now regions) g)) ⌝ }
-    ensures { λ b. ⌜ b ≡ constraintDivides (entryRow (now (regions .entry))) (constraintRow (now (cons .entry))) j ⌝ }
-{
-    divisor(regions, rows::constraint_row(cons, j)) != 0
+    over_regions(totals_of(regions), r)
 }
 
 // The first constraint whose total to divide by is 0.
@@ -68,9 +108,10 @@ pub fn constraints(regions: &[u8], cons: &[u8], n: usize) -> Checked
     requires { ⌜ ((g : ℕ) → g < 5 → EntryRule (entryRow (now regions) g)) ⌝ }
     ensures { λ r. ⌜ r ≡ firstBad (constraintDivides (entryRow (now (regions .entry))) (constraintRow (now (cons .entry)))) n ⌝ }
 {
+    let t = totals_of(regions);
     let mut j = 0;
     while j < n {
-        if !constraint_divides(regions, cons, j) {
+        if over_regions(t, rows::constraint_row(cons, j)) == 0 {
             return Checked::Bad(j);
         }
         j += 1;

@@ -11,7 +11,7 @@ use records::rows;
 use records::rows::Entry;
 use sections::Checked;
 
-// A sum for each region, three times.
+// Energies by region, by their sizes: a sum for each region, three times. All accounts', or one's own.
 pub struct Totals {
     pub ace: [u64; 5],
     pub asoe: [u64; 5],

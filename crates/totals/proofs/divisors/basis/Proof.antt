@@ -11,6 +11,12 @@ of-requires c κs = search needs
 is-regulation-requires : tie.Need-is-regulation-requires
 is-regulation-requires c κs = search needs
 
+mul-result : tie.Need-mul-result
+mul-result c = search needs
+
+array-read-result : tie.Need-array-read-result
+array-read-result c = search needs
+
 returns : tie.Need-returns
 unfolding basisOf
 returns c = rw (rw (c .before .before .of .ensures) at (sym (c .before .is-regulation .ensures) ∙ c .if1 .taken))
@@ -20,6 +26,18 @@ of-requires-2 c κs = search needs
 
 is-raise-requires : tie.Need-is-raise-requires
 is-raise-requires c κs = search needs
+
+mul-result-2 : tie.Need-mul-result-2
+mul-result-2 c = search needs
+
+array-read-result-2 : tie.Need-array-read-result-2
+array-read-result-2 c = search needs
+
+mul-result-3 : tie.Need-mul-result-3
+mul-result-3 c = search needs
+
+array-read-result-3 : tie.Need-array-read-result-3
+array-read-result-3 c = search needs
 
 returns-2 : tie.Need-returns-2
 unfolding basisOf
@@ -35,8 +53,14 @@ basis-spec =
     (tie.spec
     of-requires
     is-regulation-requires
+    mul-result
+    array-read-result
     returns
     of-requires-2
     is-raise-requires
+    mul-result-2
+    array-read-result-2
+    mul-result-3
+    array-read-result-3
     returns-2
     returns-3)

@@ -1,9 +1,12 @@
--- `totals::divisors::share` meets its contract. The region's bit decides the case. Assumes nothing.
+-- `totals::divisors::counted` meets its contract. The region's bit decides the case. Assumes nothing.
 use mathlib.Core.Path.{sym, _∙_}
 use borrow.Author.Needs.{needs}
 use Rattle.totals.specs.Divisors.{shareOf}
-use Rattle.totals.proofs.divisors.share.Statement.{statement}
-use Rattle.totals.proofs.divisors.share.Tie as tie
+use Rattle.totals.proofs.divisors.counted.Statement.{statement}
+use Rattle.totals.proofs.divisors.counted.Tie as tie
+
+cast-of : tie.Need-cast-of
+cast-of c = search needs
 
 of-requires : tie.Need-of-requires
 of-requires c κs = search needs
@@ -22,5 +25,6 @@ returns-2 : tie.Need-returns-2
 unfolding shareOf
 returns-2 c = rw (rw (c .before .before .of .ensures) at (sym (c .before .is-in .ensures) ∙ c .if1 .left))
 
-pub share-spec : {M : Type 1} → statement M
-share-spec = tie.close (tie.spec of-requires is-in-requires basis-requires returns returns-2)
+pub counted-spec : {M : Type 1} → statement M
+counted-spec =
+    tie.close (tie.spec cast-of of-requires is-in-requires basis-requires returns returns-2)

@@ -1,0 +1,44 @@
+-- `totals::divisors::totals_of` meets its contract: each entry is read, and each number of it fits a wider type. Assumes nothing.
+use Rattle.totals.proofs.Turns.{five}
+use borrow.Author.Needs.{needs}
+use Rattle.totals.proofs.divisors.totals_of.Statement.{statement}
+use Rattle.totals.proofs.divisors.totals_of.Tie as tie
+
+entry-row-requires : tie.Need-entry-row-requires
+entry-row-requires c κs = search needs
+
+entry-row-requires-2 : tie.Need-entry-row-requires-2
+entry-row-requires-2 c κs = search needs
+
+entry-row-requires-3 : tie.Need-entry-row-requires-3
+entry-row-requires-3 c κs = search needs
+
+entry-row-requires-4 : tie.Need-entry-row-requires-4
+entry-row-requires-4 c κs = search needs
+
+entry-row-requires-5 : tie.Need-entry-row-requires-5
+entry-row-requires-5 c κs = search needs
+
+returns : tie.Need-returns
+returns c =
+    let e = c .before .before .before .before .before .before .before .before .before .before .before .before .before .before .before in
+    five _
+    (e .before .before .before .before .entry-row .ensures)
+    (e .before .before .before .entry-row2 .ensures)
+    (e .before .before .entry-row3 .ensures)
+    (e .before .entry-row4 .ensures)
+    (e .entry-row5 .ensures)
+
+pub totals-of-spec : {M : Type 1} → statement M
+totals-of-spec =
+    tie.close
+    (tie.spec
+    entry-row-requires
+    entry-row-requires-2
+    entry-row-requires-3
+    entry-row-requires-4
+    entry-row-requires-5
+    (λ c. search needs) (λ c. search needs) (λ c. search needs) (λ c. search needs) (λ c. search needs)
+    (λ c. search needs) (λ c. search needs) (λ c. search needs) (λ c. search needs) (λ c. search needs)
+    (λ c. search needs) (λ c. search needs) (λ c. search needs) (λ c. search needs) (λ c. search needs)
+    returns)
