@@ -7,7 +7,7 @@ use native.Mathlib.Omega.{arith}
 use lib.Dec.{eqb}
 use Rattle.records.specs.Facts.{EntryRule}
 use Rattle.records.specs.declared.rows.EnergyRow.{EnergyRow}
-use Rattle.amounts.specs.Own.{ownEntry}
+use Rattle.totals.specs.Totals.{entryOf}
 use Rattle.book.specs.Book.{Book}
 use Rattle.book.specs.Accepted.{ownIn, Within, Promise}
 use Rattle.accounts.specs.Rows.{rowsOf, keep, sumOf, none}
@@ -54,11 +54,11 @@ module _ {B : Book} (h : Promise B) (account g : ℕ) where
 
 module _ (B : Book) {account : ℕ} {h : Held} (f : HeldIs (B .energy) (B .header .energies) account h) where
   -- the energy is that of the account's rows
-  pub held-own : (g : ℕ) → g < 5 → ownEntry (h .own) g ≡ ownEnergy (rowsOfAccount B account .energies) g
+  pub held-own : (g : ℕ) → g < 5 → entryOf (h .own) g ≡ ownEnergy (rowsOfAccount B account .energies) g
   unfolding rowsOfAccount
   held-own g l = f .own g l
 
-  pub held-rule : Promise B → (g : ℕ) → g < 5 → EntryRule (ownEntry (h .own) g)
+  pub held-rule : Promise B → (g : ℕ) → g < 5 → EntryRule (entryOf (h .own) g)
   held-rule p g l = rw (held-own g l) (own-rule p account g l)
 
   -- 11: neither a unit row nor an energy row was found

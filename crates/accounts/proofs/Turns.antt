@@ -18,7 +18,7 @@ use Rattle.records.specs.Facts.{EnergyRule}
 use Rattle.records.specs.declared.rows.UnitRow.{UnitRow}
 use Rattle.records.specs.declared.rows.EnergyRow.{EnergyRow}
 use Rattle.totals.specs.Sums.{regionOf}
-use Rattle.amounts.specs.declared.own.Own.{Own}
+use Rattle.totals.specs.declared.entries.Totals.{Totals}
 use Rattle.accounts.specs.Rows.{rowsOf, keep, sumOf, none}
 use Rattle.accounts.specs.Account.{ownEnergy}
 use Rattle.accounts.specs.Held.{HeldIs, Low, plus, Added}
@@ -48,7 +48,7 @@ module _ (energy : ℕ → EnergyRow) (n account : ℕ) where
   mineOf f = keyed accountOf account (λ i. f (energy i))
 
   -- the sums over those of the first i rows that are the account's; the rows from i on are of no account before it
-  pub record Sums (i : ℕ) (o : Own) : Type 0 where
+  pub record Sums (i : ℕ) (o : Totals) : Type 0 where
     pub run : Run accountOf n account i
     pub ace : Split 5 (regionOf energy) (mineOf (λ r. r .ace)) i (o .ace)
     pub asoe : Split 5 (regionOf energy) (mineOf (λ r. r .asoe)) i (o .asoe)
@@ -65,7 +65,7 @@ module _ (energy : ℕ → EnergyRow) (n account : ℕ) where
       }
 
   -- the sums of at most 1,024 rows are small
-  sums-low : (i : ℕ) {o : Own} → n ≤ 1024 → ((i : ℕ) → i < n → EnergyRule (energy i)) → Sums i o → (g : ℕ) → g < 5 → Low o g
+  sums-low : (i : ℕ) {o : Totals} → n ≤ 1024 → ((i : ℕ) → i < n → EnergyRule (energy i)) → Sums i o → (g : ℕ) → g < 5 → Low o g
   sums-low i few q s g b =
       let high = s .run .high in
       record {
@@ -75,7 +75,7 @@ module _ (energy : ℕ → EnergyRow) (n account : ℕ) where
       }
 
   -- the loop's test holds of row i: it is there, and the account's
-  module _ (i : ℕ) {o : Own} {t : Bool} (s : Sums i o) (e : t ≡ atKey accountOf n account i) (h : t ≡ true) where
+  module _ (i : ℕ) {o : Totals} {t : Bool} (s : Sums i o) (e : t ≡ atKey accountOf n account i) (h : t ≡ true) where
     pub own-at : (i < n) × (energy i .account ≡ account)
     own-at = at-key accountOf n account i (rw e at h)
 
@@ -92,7 +92,7 @@ module _ (energy : ℕ → EnergyRow) (n account : ℕ) where
           split-more _ _ 5 i d (ap (λ (r : EnergyRow). r .region) q) (omega (arith, own-rule .region)) (ap f q ∙ keyed-hit accountOf account (λ i. f (energy i)) i (own-at .1))
 
       -- a turn: x has the sums with it
-      pub sums-more : {x : Own} → Added r o x → Sums (i + 1) x
+      pub sums-more : {x : Totals} → Added r o x → Sums (i + 1) x
       sums-more p =
           record {
             run = run-next _ n account i (s .run) (own-at .0) (own-at .1);
@@ -111,7 +111,7 @@ module _ (energy : ℕ → EnergyRow) (n account : ℕ) where
       by false false = refl
 
   -- the loop's end: after the account's rows there is nothing more to add, and it has a row where the loop had a turn
-  pub sums-end : (a i : ℕ) {o : Own} {t : Bool} → Keeps accountOf n → Stands accountOf n account a → Sums i o → t ≡ atKey accountOf n account i → t ≡ false → HeldIs energy n account (record { own = o; any = ltb a i })
+  pub sums-end : (a i : ℕ) {o : Totals} {t : Bool} → Keeps accountOf n → Stands accountOf n account a → Sums i o → t ≡ atKey accountOf n account i → t ≡ false → HeldIs energy n account (record { own = o; any = ltb a i })
   unfolding ownEnergy
   sums-end a i k b s e h =
       record {

@@ -6,19 +6,19 @@ use mathlib.Core.List.{List}
 use lib.Dec.{eqb}
 use lib.ListN.{getD, set}
 use Rattle.records.specs.declared.rows.EnergyRow.{EnergyRow}
-use Rattle.amounts.specs.declared.own.Own.{Own}
-use Rattle.amounts.specs.Own.{ownEntry}
+use Rattle.totals.specs.Totals.{entryOf}
+use Rattle.totals.specs.declared.entries.Totals.{Totals}
 use Rattle.accounts.specs.declared.Held.{Held}
 use Rattle.accounts.specs.Rows.{rowsOf, keep, none}
 use Rattle.accounts.specs.Account.{ownEnergy}
 
 -- the energy of the account's rows among the first n, region by region, and whether there is one
 pub record HeldIs (energy : ℕ → EnergyRow) (n account : ℕ) (h : Held) : Type 0 where
-  pub own : (g : ℕ) → g < 5 → ownEntry (h .own) g ≡ ownEnergy (keep (λ r. eqb (r .account) account) (rowsOf energy n)) g
+  pub own : (g : ℕ) → g < 5 → entryOf (h .own) g ≡ ownEnergy (keep (λ r. eqb (r .account) account) (rowsOf energy n)) g
   pub any : h .any ≡ not (none (keep (λ r. eqb (r .account) account) (rowsOf energy n)))
 
 -- the sums of a region are so small that one row more fits
-pub record Low (o : Own) (g : ℕ) : Type 0 where
+pub record Low (o : Totals) (g : ℕ) : Type 0 where
   pub ace : getD (o .ace) g 0 ≤ 50000000000
   pub asoe : getD (o .asoe) g 0 ≤ 50000000000
   pub residual : getD (o .residual) g 0 ≤ 50000000000
@@ -28,7 +28,7 @@ abbrev pub plus : List ℕ → ℕ → ℕ → List ℕ
 plus l g x = set l g (getD l g 0 + x)
 
 -- row r added to the sums o
-pub record Added (r : EnergyRow) (o x : Own) : Type 0 where
+pub record Added (r : EnergyRow) (o x : Totals) : Type 0 where
   pub ace : x .ace ≡ plus (o .ace) (r .region) (r .ace)
   pub asoe : x .asoe ≡ plus (o .asoe) (r .region) (r .asoe)
   pub residual : x .residual ≡ plus (o .residual) (r .region) (r .race + r .rasoe)

@@ -9,15 +9,15 @@ ghost use Rattle.records.specs.Rows.{energyRow, unitRow};
 ghost use Rattle.records.specs.Facts.{EnergyRule};
 ghost use Rattle.accounts.specs.Rows.{rowsOf, keep, none};
 ghost use Rattle.accounts.specs.Held.{Low, Added, HeldIs};
-use amounts::own::Own;
 use records::find;
 use records::rows;
 use records::rows::EnergyRow;
 use totals::entries;
+use totals::entries::Totals;
 
 // What an account has in each region, and whether it has an energy row at all.
 pub struct Held {
-    pub own: Own,
+    pub own: Totals,
     pub any: bool,
 }
 
@@ -51,7 +51,7 @@ pub fn own_energy(energy: &[u8], n: usize, account: u32) -> Held
         i += 1;
     }
     Held {
-        own: Own {
+        own: Totals {
             ace,
             asoe,
             residual,

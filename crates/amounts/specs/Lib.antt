@@ -1,4 +1,3 @@
 pub mod Shares
 pub mod Pools
 pub mod Bounds
-pub mod Own

@@ -10,10 +10,10 @@ use Rattle.records.specs.declared.rows.Entry.{Entry}
 use Rattle.records.specs.declared.rows.Constraint.{Constraint}
 use Rattle.totals.specs.Sums.{regionOf}
 use Rattle.totals.specs.Divisors.{divisorOf}
+use Rattle.totals.specs.Totals.{entryOf}
+use Rattle.totals.specs.declared.entries.Totals.{Totals}
 use Rattle.book.specs.Book.{Book}
 use Rattle.book.specs.Accepted.{Promise}
-use Rattle.amounts.specs.Own.{ownEntry}
-use Rattle.amounts.specs.declared.own.Own.{Own}
 use Rattle.accounts.specs.Rows.{rowsOf, sumOf}
 use Rattle.accounts.specs.Account.{rowsOfAccount, ownEnergy}
 use Rattle.accounts.proofs.Lists.{total-rows}
@@ -29,7 +29,7 @@ unfoldable pub ownBy : Book → ℕ → Basis → ℕ → ℕ
 ownBy B a b g = totalOf (regionOf (B .energy)) g (λ i. cond (eqb (B .energy i .account) a) (byBasis b (B .energy i)) 0) (B .header .energies)
 
 -- of each kind, region by region
-unfoldable pub ownOf : Book → ℕ → Own
+unfoldable pub ownOf : Book → ℕ → Totals
 ownOf B a = record { ace = rowsOf (ownBy B a Ace) 5; asoe = rowsOf (ownBy B a Asoe) 5; residual = rowsOf (ownBy B a Residual) 5 }
 
 -- the one of five numbers at a place
@@ -54,7 +54,7 @@ module _ (B : Book) (a : ℕ) where
       (λ i. choices (eqb (B .energy i .region) g) (eqb (B .energy i .account) a) (byBasis b (B .energy i)))
       (B .header .energies)
 
-  pub own-entry : (g : ℕ) → g < 5 → ownEntry (ownOf B a) g ≡ ownEnergy (rowsOfAccount B a .energies) g
+  pub own-entry : (g : ℕ) → g < 5 → entryOf (ownOf B a) g ≡ ownEnergy (rowsOfAccount B a .energies) g
   unfolding ownOf ownEnergy byBasis
   own-entry g l =
       made (five _ g l ∙ own-rows Ace g) (five _ g l ∙ own-rows Asoe g) (five _ g l ∙ own-rows Residual g)
@@ -62,22 +62,22 @@ module _ (B : Book) (a : ℕ) where
       made : {x y z u v w : ℕ} → x ≡ u → y ≡ v → z ≡ w → _≡_ {A = Entry} (record { ace = x; asoe = y; residual = z }) (record { ace = u; asoe = v; residual = w })
       made p q r = cc
 
-  own-counted : Promise B → Counted (B .energy) (B .header .energies) (λ i. eqb (B .energy i .account) a) (ownEntry (ownOf B a))
+  own-counted : Promise B → Counted (B .energy) (B .header .energies) (λ i. eqb (B .energy i .account) a) (entryOf (ownOf B a))
   unfolding ownOf ownBy entryBy
   own-counted p = record { low = λ i l. p .fields .energies i l .region; sums = by }
     where
-      by : (b : Basis) (g : ℕ) → g < 5 → entryBy b (ownEntry (ownOf B a) g) ≡ ownBy B a b g
+      by : (b : Basis) (g : ℕ) → g < 5 → entryBy b (entryOf (ownOf B a) g) ≡ ownBy B a b g
       by Ace g l = five _ g l
       by Asoe g l = five _ g l
       by Residual g l = five _ g l
 
 module _ {B : Book} (p : Promise B) (a : ℕ) where
   -- over a constraint's regions
-  pub own-constraint : (r : Constraint) (amount : ℕ) → divisorOf (ownEntry (ownOf B a)) r ≡ ownIn (partOf (B .entry) r amount) (B .energy) (B .header .energies) a
+  pub own-constraint : (r : Constraint) (amount : ℕ) → divisorOf (entryOf (ownOf B a)) r ≡ ownIn (partOf (B .entry) r amount) (B .energy) (B .header .energies) a
   unfolding ownIn
   own-constraint r amount = constraint-energy (own-counted B a p) (B .entry) r amount
 
   -- in one region
-  pub own-region : (x : Part) (g : ℕ) → g < 5 → x .mask ≡ 2 ^ g → entryBy (x .basis) (ownEntry (ownOf B a) g) ≡ ownIn x (B .energy) (B .header .energies) a
+  pub own-region : (x : Part) (g : ℕ) → g < 5 → x .mask ≡ 2 ^ g → entryBy (x .basis) (entryOf (ownOf B a) g) ≡ ownIn x (B .energy) (B .header .energies) a
   unfolding ownIn
   own-region x g l m = region-energy (own-counted B a p) x g l m

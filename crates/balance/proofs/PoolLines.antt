@@ -20,9 +20,9 @@ use Rattle.records.specs.declared.rows.UnitRow.{UnitRow}
 use Rattle.records.specs.declared.rows.Contract.{Contract}
 use Rattle.factors.specs.Naming.{idOf, keyOf}
 use Rattle.totals.specs.Divisors.{divisorOf}
+use Rattle.totals.specs.Totals.{entryOf}
 use Rattle.book.specs.Book.{Book}
 use Rattle.book.specs.Accepted.{Promise}
-use Rattle.amounts.specs.Own.{ownEntry}
 use Rattle.amounts.specs.Pools.{poolsOf, residualOf, halvesOf}
 use Rattle.amounts.specs.Shares.{byFactor, byEnergy}
 use Rattle.amounts.specs.declared.pools.Pools.{Pools}
@@ -197,10 +197,10 @@ module _ {B : Book} (p : Promise B) (a : ℕ) where
       (λ x e _. other-id _ x (λ z. q (rises-once (idOf (B .constraint)) (B .header .constraints) (p .ordered .constraints) u j m l (sym e ∙ z)))))
       h)
       (kept-nothing _ (B .header .contracts)
-      (λ i m. no-contract _ (B .entry) (ownEntry (ownOf B a)) (B .contract) i (λ x _ g. other-part _ x (priced-part kind (x .part) k g)))))
+      (λ i m. no-contract _ (B .entry) (entryOf (ownOf B a)) (B .contract) i (λ x _ g. other-part _ x (priced-part kind (x .part) k g)))))
 
   -- and of a contract's pool the contract
-  contract-kept : (i : ℕ) {n c d : ℕ} → i < B .header .contracts → Kept (inPool (contractPool (B .contract i))) (contractLinesAt (B .entry) (ownEntry (ownOf B a)) (B .contract) i) n c d → Kept (inPool (contractPool (B .contract i))) (linesOf (publicOf B) (rowsOfAccount B a)) n c d
+  contract-kept : (i : ℕ) {n c d : ℕ} → i < B .header .contracts → Kept (inPool (contractPool (B .contract i))) (contractLinesAt (B .entry) (entryOf (ownOf B a)) (B .contract) i) n c d → Kept (inPool (contractPool (B .contract i))) (linesOf (publicOf B) (rowsOfAccount B a)) n c d
   unfolding bookLines conLinesAt contractPool
   contract-kept i l h =
       walk-kept
@@ -208,17 +208,17 @@ module _ {B : Book} (p : Promise B) (a : ℕ) where
       (kept-nothing _ (B .header .constraints)
       (λ u m. no-constraint _ (B .unit) (B .header .units) a (B .constraint u) _ _ (λ x _ g. other-part _ x (paid-part (x .part) g))))
       (kept-only _ i (B .header .contracts) l
-      (λ u m q. no-contract _ (B .entry) (ownEntry (ownOf B a)) (B .contract) u
+      (λ u m q. no-contract _ (B .entry) (entryOf (ownOf B a)) (B .contract) u
       (λ x e _. other-id _ x (λ z. q (rises-once (λ k. B .contract k .id) (B .header .contracts) (p .ordered .contracts) u i m l (sym e ∙ z)))))
       h))
 
   -- ---- shares
 
-  constraint-share : (r : Constraint) (amount : ℕ) → roundN (amount * divisorOf (ownEntry (ownOf B a)) r) (divisorOf (B .entry) r) ≡ constraintShare B a r amount
+  constraint-share : (r : Constraint) (amount : ℕ) → roundN (amount * divisorOf (entryOf (ownOf B a)) r) (divisorOf (B .entry) r) ≡ constraintShare B a r amount
   unfolding shareIn partOf
   constraint-share r amount = ap (λ (x : ℕ). roundN (amount * x) (divisorOf (B .entry) r)) (own-constraint p a r amount)
 
-  region-shares : (k : Contract) (g : ℕ) → g < 5 → roundN (halvesOf (k .payment) (factorOf (k .factors) g) .consumed * ownEntry (ownOf B a) g .ace) (B .entry g .ace) + roundN (halvesOf (k .payment) (factorOf (k .factors) g) .sent * ownEntry (ownOf B a) g .asoe) (B .entry g .asoe) ≡ regionShare B a k g
+  region-shares : (k : Contract) (g : ℕ) → g < 5 → roundN (halvesOf (k .payment) (factorOf (k .factors) g) .consumed * entryOf (ownOf B a) g .ace) (B .entry g .ace) + roundN (halvesOf (k .payment) (factorOf (k .factors) g) .sent * entryOf (ownOf B a) g .asoe) (B .entry g .asoe) ≡ regionShare B a k g
   unfolding shareIn consumedPart sentPart entryBy
   region-shares k g l =
       ap₂ _+_
@@ -248,5 +248,5 @@ module _ {B : Book} (p : Promise B) (a : ℕ) where
   unfolding contractLinesAt total
   contract-lines i l = contract-kept i l (kept-joined _ _ (λ g. 0) _ 5 (λ g m. region-kept g m))
     where
-      region-kept : (g : ℕ) → g < 5 → Kept (inPool (contractPool (B .contract i))) (regionLines (B .entry) (ownEntry (ownOf B a)) (B .contract i) g) (cond (eqb (factorOf (B .contract i .factors) g) 0) 0 2) 0 (cond (eqb (factorOf (B .contract i .factors) g) 0) 0 (regionShare B a (B .contract i) g))
-      region-kept g m = rw (← region-shares (B .contract i) g m) (paid-kept (B .contract i) (B .entry) (ownEntry (ownOf B a)) g)
+      region-kept : (g : ℕ) → g < 5 → Kept (inPool (contractPool (B .contract i))) (regionLines (B .entry) (entryOf (ownOf B a)) (B .contract i) g) (cond (eqb (factorOf (B .contract i .factors) g) 0) 0 2) 0 (cond (eqb (factorOf (B .contract i .factors) g) 0) 0 (regionShare B a (B .contract i) g))
+      region-kept g m = rw (← region-shares (B .contract i) g m) (paid-kept (B .contract i) (B .entry) (entryOf (ownOf B a)) g)

@@ -7,23 +7,23 @@ use lib.ListN.{length, length-append}
 use native.Mathlib.Omega.{arith}
 use Rattle.ground.specs.Bytes.{partFrom}
 use Rattle.records.specs.Rows.{entryRow, constraintRow, unitRow, contractRow}
+use Rattle.totals.specs.Totals.{entryOf}
+use Rattle.totals.specs.declared.entries.Totals.{Totals}
 use Rattle.book.specs.Book.{bookIn}
 use Rattle.book.specs.Header.{unitsFrom, contractsFrom}
 use Rattle.book.specs.declared.header.Header.{Header}
-use Rattle.amounts.specs.Own.{ownEntry}
-use Rattle.amounts.specs.declared.own.Own.{Own}
 use Rattle.accounts.specs.Rows.{joined}
 use Rattle.statement.specs.declared.Line.{Line}
 use Rattle.lines.specs.Emitted.{Emitted, Room}
 use Rattle.lines.proofs.Emission.{emitted-more, room-less, room-rest}
 use Rattle.settlement.specs.Walks.{conLinesAt, contractLinesAt, bookLines, Ready, Payable, Walkable}
 
-module _ (b : List ℕ) (h : Header) (account : ℕ) (own : Own) where
+module _ (b : List ℕ) (h : Header) (account : ℕ) (own : Totals) where
   abbrev pub conPart : ℕ → List Line
   conPart u = joined (conLinesAt (entryRow (partFrom 24 b)) (constraintRow (partFrom 84 b)) (unitRow (partFrom u b)) (h .units) account own) (h .constraints)
 
   abbrev pub paidPart : ℕ → List Line
-  paidPart k = joined (contractLinesAt (entryRow (partFrom 24 b)) (ownEntry own) (contractRow (partFrom k b))) (h .contracts)
+  paidPart k = joined (contractLinesAt (entryRow (partFrom 24 b)) (entryOf own) (contractRow (partFrom k b))) (h .contracts)
 
   pub ready-at : (u : ℕ) → u ≡ unitsFrom h → Walkable (bookIn b h) own → Ready (entryRow (partFrom 24 b)) (constraintRow (partFrom 84 b)) (h .constraints) (unitRow (partFrom u b)) (h .units) own
   ready-at u e w = rw e (w .ready)

@@ -21,9 +21,9 @@ use Rattle.records.specs.declared.rows.Contract.{Contract}
 use Rattle.factors.specs.Naming.{keyOf}
 use Rattle.factors.specs.Runs.{Walked}
 use Rattle.totals.specs.Divisors.{divisorOf}
-use Rattle.amounts.specs.Own.{ownEntry}
+use Rattle.totals.specs.Totals.{entryOf}
+use Rattle.totals.specs.declared.entries.Totals.{Totals}
 use Rattle.amounts.specs.Pools.{poolsOf, residualOf}
-use Rattle.amounts.specs.declared.own.Own.{Own}
 use Rattle.amounts.specs.declared.pools.Residual.{Residual}
 use Rattle.accounts.specs.Rows.{joined}
 use Rattle.accounts.proofs.Joined.{joined-none, joined-more, joined-all, joined-nothing, joined-rest, joined-length}
@@ -135,7 +135,7 @@ module _ (con : ℕ → Constraint) (unit : ℕ → UnitRow) (m account : ℕ) w
       record {
         lines = λ entry own. (
             let both = length-append (joined (conLinesAt entry con unit m account own) j) (conLinesAt entry con unit m account own j) in
-            let row : y .lines ≡ length (conLinesAt entry con unit m account own j) = rw e at (c .lines (divisorOf (ownEntry own) (con j)) (divisorOf entry (con j))) in
+            let row : y .lines ≡ length (conLinesAt entry con unit m account own j) = rw e at (c .lines (divisorOf (entryOf own) (con j)) (divisorOf entry (con j))) in
             rw (← joined-more (conLinesAt entry con unit m account own) j) (omega (arith, h .lines entry own, row, both))
             );
         few = omega (arith, h .few, c .few);
@@ -191,6 +191,6 @@ module _ (b : List ℕ) (h : Header) (account u : ℕ) (e : u ≡ unitsFrom h) w
   unfolding bookLines
   book-counted k f m n c d =
       record {
-        lines = λ own. rw length-append (ap₂ _+_ (rw e at (c .lines (entryRow (partFrom 24 b)) own)) (rw f at (d .lines (entryRow (partFrom 24 b)) (ownEntry own))));
+        lines = λ own. rw length-append (ap₂ _+_ (rw e at (c .lines (entryRow (partFrom 24 b)) own)) (rw f at (d .lines (entryRow (partFrom 24 b)) (entryOf own))));
         few = omega (arith, c .few, d .few);
       }

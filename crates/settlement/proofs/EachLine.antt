@@ -10,9 +10,9 @@ use Rattle.ground.proofs.Each.{each-append, each-choice}
 use Rattle.records.specs.Rules.{factorOf}
 use Rattle.factors.specs.Naming.{keyOf}
 use Rattle.totals.specs.Divisors.{divisorOf}
-use Rattle.amounts.specs.Own.{ownEntry}
+use Rattle.totals.specs.Totals.{entryOf}
+use Rattle.totals.specs.declared.entries.Totals.{Totals}
 use Rattle.amounts.specs.Pools.{poolsOf, residualOf, halvesOf}
-use Rattle.amounts.specs.declared.own.Own.{Own}
 use Rattle.accounts.specs.Rows.{joined}
 use Rattle.accounts.proofs.Joined.{each-joined}
 use Rattle.book.specs.Book.{Book}
@@ -25,13 +25,13 @@ each-unless : (P : Line → Type 0) (t : Bool) (ls : List Line) → (t ≡ false
 each-unless P true ls h = tt
 each-unless P false ls h = h refl
 
-module _ (P : Line → Type 0) (B : Book) (own : Own) where
+module _ (P : Line → Type 0) (B : Book) (own : Totals) where
   -- of constraint j's lines, and of contract k's in region g
   pub record EachKind : Type 0 where
-    pub contingency : (j : ℕ) → j < B .header .constraints → P (contingencyLine (B .constraint j) (divisorOf (ownEntry own) (B .constraint j)) (divisorOf (B .entry) (B .constraint j)))
+    pub contingency : (j : ℕ) → j < B .header .constraints → P (contingencyLine (B .constraint j) (divisorOf (entryOf own) (B .constraint j)) (divisorOf (B .entry) (B .constraint j)))
     pub units : (j : ℕ) → j < B .header .constraints → (u : ℕ) → u < B .header .units → Each P (unitLines (B .constraint j) (poolsOf (B .constraint j)) (B .unit u))
-    pub rest : (j : ℕ) → j < B .header .constraints → Each P (restLines (B .constraint j) (residualOf (B .constraint j) (poolsOf (B .constraint j))) (divisorOf (ownEntry own) (B .constraint j)) (divisorOf (B .entry) (B .constraint j)))
-    pub region : (k : ℕ) → k < B .header .contracts → (g : ℕ) → g < 5 → (factorOf (B .contract k .factors) g ≡ 0 → ⊥) → Each P (aceLine (B .contract k .id) g (halvesOf (B .contract k .payment) (factorOf (B .contract k .factors) g)) (ownEntry own g .ace) (B .entry g .ace) ∷ asoeLine (B .contract k .id) g (halvesOf (B .contract k .payment) (factorOf (B .contract k .factors) g)) (ownEntry own g .asoe) (B .entry g .asoe) ∷ [])
+    pub rest : (j : ℕ) → j < B .header .constraints → Each P (restLines (B .constraint j) (residualOf (B .constraint j) (poolsOf (B .constraint j))) (divisorOf (entryOf own) (B .constraint j)) (divisorOf (B .entry) (B .constraint j)))
+    pub region : (k : ℕ) → k < B .header .contracts → (g : ℕ) → g < 5 → (factorOf (B .contract k .factors) g ≡ 0 → ⊥) → Each P (aceLine (B .contract k .id) g (halvesOf (B .contract k .payment) (factorOf (B .contract k .factors) g)) (entryOf own g .ace) (B .entry g .ace) ∷ asoeLine (B .contract k .id) g (halvesOf (B .contract k .payment) (factorOf (B .contract k .factors) g)) (entryOf own g .asoe) (B .entry g .asoe) ∷ [])
 
   module _ (h : EachKind) (account : ℕ) where
     constraint-each : (j : ℕ) → j < B .header .constraints → Each P (conLinesAt (B .entry) (B .constraint) (B .unit) (B .header .units) account own j)
@@ -42,11 +42,11 @@ module _ (P : Line → Type 0) (B : Book) (own : Own) where
         (each-joined P _ (B .header .units) (λ u m. each-choice P (eqb (keyOf (B .unit) u) (B .constraint j .id)) _ [] (each-choice P (eqb (B .unit u .account) account) _ [] (h .units j l u m) tt) tt))
         (h .rest j l))
 
-    region-each : (k : ℕ) → k < B .header .contracts → (g : ℕ) → g < 5 → Each P (regionLines (B .entry) (ownEntry own) (B .contract k) g)
+    region-each : (k : ℕ) → k < B .header .contracts → (g : ℕ) → g < 5 → Each P (regionLines (B .entry) (entryOf own) (B .contract k) g)
     unfolding regionLines
     region-each k l g m = each-unless P (eqb (factorOf (B .contract k .factors) g) 0) _ (λ e. h .region k l g m (eqb-false _ _ e))
 
-    contract-each : (k : ℕ) → k < B .header .contracts → Each P (contractLinesAt (B .entry) (ownEntry own) (B .contract) k)
+    contract-each : (k : ℕ) → k < B .header .contracts → Each P (contractLinesAt (B .entry) (entryOf own) (B .contract) k)
     unfolding contractLinesAt
     contract-each k l = each-joined P _ 5 (region-each k l)
 

@@ -13,6 +13,8 @@ use Rattle.ground.specs.Bytes.{partFrom}
 use Rattle.sections.specs.declared.Verdict.{Verdict}
 use Rattle.sections.specs.declared.Verdict.the-variants.{Accepted, Refused}
 use Rattle.records.specs.Rows.{unitRow, energyRow}
+use Rattle.totals.specs.Totals.{entryOf}
+use Rattle.totals.specs.declared.entries.Totals.{Totals}
 use Rattle.book.specs.Header.{headerOf, unitsFrom, energiesFrom}
 use Rattle.book.specs.declared.header.Header.{Header}
 use Rattle.book.specs.Book.{Book, bookIn, bookOf}
@@ -20,8 +22,6 @@ use Rattle.book.specs.Facts.{Laid}
 use Rattle.book.specs.Table.{verdict}
 use Rattle.book.specs.Accepted.{Within, Promise, AcceptedBook}
 use Rattle.book.proofs.Promise.{accepted}
-use Rattle.amounts.specs.Own.{ownEntry}
-use Rattle.amounts.specs.declared.own.Own.{Own}
 use Rattle.accounts.specs.Rows.{rowsOf, keep, none, joined}
 use Rattle.accounts.specs.Account.{publicOf, rowsOfAccount, ownEnergy, unknown}
 use Rattle.accounts.specs.Held.{HeldIs}
@@ -46,7 +46,7 @@ use Rattle.settlement.proofs.LineCount.{few-lines, few-pays}
 
 -- ---- the tests that come before the first byte is written
 
-module _ (B : Book) (account : ℕ) (own : Own) (p : Promise B) (o : Owned B account own) (l : List ℕ) {over : Bool} (e : over ≡ bookOver B) where
+module _ (B : Book) (account : ℕ) (own : Totals) (p : Promise B) (o : Owned B account own) (l : List ℕ) {over : Bool} (e : over ≡ bookOver B) where
   over-told : over ≡ anyOver (linesOf (publicOf B) (rowsOfAccount B account))
   over-told = e ∙ over-is B p own (o .walk) account ∙ ap anyOver (sym (o .lines))
 
@@ -56,7 +56,7 @@ module _ (B : Book) (account : ℕ) (own : Own) (p : Promise B) (o : Owned B acc
   pub end-12 : over ≡ true → Lent (settled account (publicOf B) (rowsOfAccount B account)) l (written.Refused 12 0) l
   end-12 t = lent-refused 12 0 _ l (settled-over account (publicOf B) (rowsOfAccount B account) (o .known) (sym over-told ∙ t))
 
-  module _ (t : over ≡ false) {short : Bool} (s : (own : Own) → short ≡ ltb (length l) (24 + length (bookLines B account own) * 24)) where
+  module _ (t : over ≡ false) {short : Bool} (s : (own : Totals) → short ≡ ltb (length l) (24 + length (bookLines B account own) * 24)) where
     pub end-13 : short ≡ true → Lent (settled account (publicOf B) (rowsOfAccount B account)) l (written.Refused 13 0) l
     end-13 q =
         lent-short account (publicOf B) (rowsOfAccount B account) (o .known) (sym over-told ∙ t) l (length (bookLines B account own)) count-is
@@ -76,27 +76,27 @@ module _ (B : Book) (account : ℕ) (own : Own) (p : Promise B) (o : Owned B acc
 -- ---- how many lines there are
 
 module _ (B : Book) (account : ℕ) (p : Promise B) where
-  pub few-of : (own : Own) → length (bookLines B account own) ≤ 2152
+  pub few-of : (own : Totals) → length (bookLines B account own) ≤ 2152
   unfolding bookLines
   few-of own =
       let c = joined (conLinesAt (B .entry) (B .constraint) (B .unit) (B .header .units) account own) (B .header .constraints) in
-      let k = joined (contractLinesAt (B .entry) (ownEntry own) (B .contract)) (B .header .contracts) in
+      let k = joined (contractLinesAt (B .entry) (entryOf own) (B .contract)) (B .header .contracts) in
       let m = p .few in
       omega (
         arith,
         length-append c k,
         few-lines (B .entry) (B .constraint) (B .header .constraints) (B .unit) (B .header .units) account own (p .ordered .constraints),
-        few-pays (B .entry) (ownEntry own) (B .contract) (B .header .contracts),
+        few-pays (B .entry) (entryOf own) (B .contract) (B .header .contracts),
         m .constraints,
         m .units,
         m .contracts,
       )
 
   -- with room for 2,152 lines there is room
-  pub room-for-all : {room : ℕ} → 51672 ≤ room → (own : Own) → false ≡ ltb room (24 + length (bookLines B account own) * 24)
+  pub room-for-all : {room : ℕ} → 51672 ≤ room → (own : Totals) → false ≡ ltb room (24 + length (bookLines B account own) * 24)
   room-for-all {room} h own = sym (le-ltb room (24 + length (bookLines B account own) * 24) (omega (arith, few-of own)))
 
-  pub short-counted : (room : ℕ) {x : ℕ} → BookCounted B account x → (own : Own) → ltb room (24 + x * 24) ≡ ltb room (24 + length (bookLines B account own) * 24)
+  pub short-counted : (room : ℕ) {x : ℕ} → BookCounted B account x → (own : Totals) → ltb room (24 + x * 24) ≡ ltb room (24 + length (bookLines B account own) * 24)
   short-counted room c own = ap (λ (n : ℕ). ltb room (24 + n * 24)) (c .lines own)
 
 -- ---- once the account's own rows are read
@@ -105,7 +105,7 @@ module _ (B : Book) (account : ℕ) (p : Promise B) {held : Held} (f : HeldIs (B
   pub own-of : unknown (rowsOfAccount B account) ≡ false → Owned B account (held .own)
   own-of k =
       let same = held-own B f in
-      let w : (g : ℕ) → g < 5 → Within (B .entry g) (ownEntry (held .own) g .ace) (ownEntry (held .own) g .asoe) (ownEntry (held .own) g .residual) = λ g h. subst (λ (z : Entry). Within (B .entry g) (z .ace) (z .asoe) (z .residual)) (sym (same g h)) (own-within p account g h) in
+      let w : (g : ℕ) → g < 5 → Within (B .entry g) (entryOf (held .own) g .ace) (entryOf (held .own) g .asoe) (entryOf (held .own) g .residual) = λ g h. subst (λ (z : Entry). Within (B .entry g) (z .ace) (z .asoe) (z .residual)) (sym (same g h)) (own-within p account g h) in
       record {
         known = k;
         lines = lines-link B account (held .own) same;

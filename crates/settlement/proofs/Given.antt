@@ -15,11 +15,11 @@ use Rattle.records.specs.declared.rows.Constraint.{Constraint}
 use Rattle.factors.specs.Naming.{idOf, keyOf}
 use Rattle.factors.proofs.Said.{names-of}
 use Rattle.totals.specs.Divisors.{basisOf, shareOf, divisorOf}
+use Rattle.totals.specs.Totals.{entryOf}
+use Rattle.totals.specs.declared.entries.Totals.{Totals}
 use Rattle.totals.proofs.Turns.{share-small}
 use Rattle.book.specs.Book.{Book}
 use Rattle.book.specs.Accepted.{Within, Promise}
-use Rattle.amounts.specs.Own.{ownEntry}
-use Rattle.amounts.specs.declared.own.Own.{Own}
 use Rattle.lines.specs.Lines.{Shared}
 use Rattle.settlement.specs.Walks.{Ready, Payable}
 use Rattle.settlement.specs.Counts.{Countable}
@@ -80,12 +80,12 @@ module _ (B : Book) (h : Promise B) where
         bare = bare-of;
       }
 
-  module _ (own : Own) (own-within : (g : ℕ) → g < 5 → Within (B .entry g) (ownEntry own g .ace) (ownEntry own g .asoe) (ownEntry own g .residual)) where
+  module _ (own : Totals) (own-within : (g : ℕ) → g < 5 → Within (B .entry g) (entryOf own g .ace) (entryOf own g .asoe) (entryOf own g .residual)) where
     -- the account's energy over a constraint's regions is part of a total that is not 0
-    pub shared-of : (j : ℕ) → j < B .header .constraints → Shared (divisorOf (ownEntry own) (B .constraint j)) (divisorOf (B .entry) (B .constraint j))
+    pub shared-of : (j : ℕ) → j < B .header .constraints → Shared (divisorOf (entryOf own) (B .constraint j)) (divisorOf (B .entry) (B .constraint j))
     shared-of j l =
         record {
-          part = total-under (λ g. shareOf (B .constraint j) (ownEntry own g) g) (λ g. shareOf (B .constraint j) (B .entry g) g) 5 (λ g b. within-share (B .constraint j) (B .entry g) (ownEntry own g) g (own-within g b));
+          part = total-under (λ g. shareOf (B .constraint j) (entryOf own g) g) (λ g. shareOf (B .constraint j) (B .entry g) g) 5 (λ g b. within-share (B .constraint j) (B .entry g) (entryOf own g) g (own-within g b));
           above = h .divisor j l;
           below = omega (arith, total-bound (λ g. shareOf (B .constraint j) (B .entry g) g) 20000000 5 (λ g b. share-small (B .constraint j) (B .entry g) g (h .fields .entries g b)));
         }
@@ -100,7 +100,7 @@ module _ (B : Book) (h : Promise B) where
           names = countable-of .names;
           bare = bare-of;
           entries = h .fields .entries;
-          energy = λ g b. within-rule (B .entry g) (ownEntry own g) (own-within g b) (h .fields .entries g b);
+          energy = λ g b. within-rule (B .entry g) (entryOf own g) (own-within g b) (h .fields .entries g b);
           shared = shared-of;
         }
 

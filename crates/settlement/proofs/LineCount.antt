@@ -17,8 +17,8 @@ use Rattle.records.specs.declared.rows.Constraint.{Constraint}
 use Rattle.records.specs.declared.rows.UnitRow.{UnitRow}
 use Rattle.records.specs.declared.rows.Contract.{Contract}
 use Rattle.factors.specs.Naming.{idOf, keyOf}
+use Rattle.totals.specs.declared.entries.Totals.{Totals}
 use Rattle.amounts.specs.Pools.{poolsOf, residualOf}
-use Rattle.amounts.specs.declared.own.Own.{Own}
 use Rattle.amounts.specs.declared.pools.Pools.{Pools}
 use Rattle.amounts.specs.declared.pools.Residual.{Residual}
 use Rattle.accounts.specs.Rows.{joined}
@@ -83,7 +83,7 @@ module _ (unit : ℕ → UnitRow) (account : ℕ) (r : Constraint) where
 
 -- ---- all constraints
 
-module _ (entry : ℕ → Entry) (con : ℕ → Constraint) (n : ℕ) (unit : ℕ → UnitRow) (m account : ℕ) (own : Own) where
+module _ (entry : ℕ → Entry) (con : ℕ → Constraint) (n : ℕ) (unit : ℕ → UnitRow) (m account : ℕ) (own : Totals) where
   -- the same of constraint j
   constraint-at : (j : ℕ) → length (conLinesAt entry con unit m account own j) ≤ totalOf (keyOf unit) (con j .id) (λ v. 3) m + 3
   unfolding conLinesAt

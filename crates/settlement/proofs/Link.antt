@@ -5,16 +5,16 @@ use mathlib.Core.Bool.{Bool, true, false, cond}
 use mathlib.Core.List.{List, [], _++_}
 use lib.Dec.{eqb}
 use native.Mathlib.Omega.{arith}
-use Rattle.sections.proofs.Total.{total-same}
 use Rattle.records.specs.declared.rows.Entry.{Entry}
 use Rattle.records.specs.declared.rows.Constraint.{Constraint}
 use Rattle.records.specs.declared.rows.UnitRow.{UnitRow}
 use Rattle.records.specs.declared.rows.Contract.{Contract}
-use Rattle.totals.specs.Divisors.{shareOf, divisorOf}
+use Rattle.totals.specs.Divisors.{divisorOf}
+use Rattle.totals.specs.Totals.{entryOf}
+use Rattle.totals.specs.declared.entries.Totals.{Totals}
+use Rattle.totals.proofs.Turns.{divisor-same}
 use Rattle.book.specs.Book.{Book}
 use Rattle.amounts.specs.Pools.{poolsOf}
-use Rattle.amounts.specs.Own.{ownEntry}
-use Rattle.amounts.specs.declared.own.Own.{Own}
 use Rattle.accounts.specs.Rows.{rowsOf, keep, joined, concatMap}
 use Rattle.accounts.specs.Account.{publicOf, rowsOfAccount, ownEnergy}
 use Rattle.accounts.proofs.Joined.{joined-same}
@@ -38,9 +38,6 @@ entry-in f (suc (suc (suc (suc (suc g))))) l = absurd (none l)
     none : suc (suc (suc (suc (suc g)))) < 5 → ⊥
     none l = omega arith
 
-divisor-same : (f h : ℕ → Entry) (r : Constraint) → ((g : ℕ) → g < 5 → f g ≡ h g) → divisorOf f r ≡ divisorOf h r
-divisor-same f h r e = total-same _ _ 5 (λ g l. ap (λ (x : Entry). shareOf r x g) (e g l))
-
 -- ---- unit rows
 
 swapped : (a b : Bool) (ls : List Line) → cond a (cond b ls []) [] ≡ cond b (cond a ls []) []
@@ -57,17 +54,17 @@ units-link unit m account r =
 
 -- ---- all lines
 
-module _ (B : Book) (account : ℕ) (own : Own) (e : (g : ℕ) → g < 5 → ownEntry own g ≡ ownEnergy (rowsOfAccount B account .energies) g) where
-  con-link : (r : Constraint) → constraintLines (entryIn (rowsOf (B .entry) 5)) (ownEnergy (rowsOfAccount B account .energies)) (rowsOfAccount B account .units) r ≡ conLines (B .unit) (B .header .units) account r (divisorOf (ownEntry own) r) (divisorOf (B .entry) r)
+module _ (B : Book) (account : ℕ) (own : Totals) (e : (g : ℕ) → g < 5 → entryOf own g ≡ ownEnergy (rowsOfAccount B account .energies) g) where
+  con-link : (r : Constraint) → constraintLines (entryIn (rowsOf (B .entry) 5)) (ownEnergy (rowsOfAccount B account .energies)) (rowsOfAccount B account .units) r ≡ conLines (B .unit) (B .header .units) account r (divisorOf (entryOf own) r) (divisorOf (B .entry) r)
   unfolding constraintLines conLines rowsOfAccount
   con-link r =
       rw (
         units-link (B .unit) (B .header .units) account r,
         divisor-same (entryIn (rowsOf (B .entry) 5)) (B .entry) r (entry-in (B .entry)),
-        divisor-same (ownEntry own) (ownEnergy (rowsOfAccount B account .energies)) r e,
+        divisor-same (entryOf own) (ownEnergy (rowsOfAccount B account .energies)) r e,
       )
 
-  paid-link : (k : Contract) → contractLines (entryIn (rowsOf (B .entry) 5)) (ownEnergy (rowsOfAccount B account .energies)) k ≡ joined (regionLines (B .entry) (ownEntry own) k) 5
+  paid-link : (k : Contract) → contractLines (entryIn (rowsOf (B .entry) 5)) (ownEnergy (rowsOfAccount B account .energies)) k ≡ joined (regionLines (B .entry) (entryOf own) k) 5
   unfolding contractLines regionLines
   paid-link k = joined-same _ _ 5 (λ g l. rw (entry-in (B .entry) g l, ← e g l))
 
@@ -75,7 +72,7 @@ module _ (B : Book) (account : ℕ) (own : Own) (e : (g : ℕ) → g < 5 → own
   unfolding conLinesAt
   con-at j = con-link (B .constraint j)
 
-  paid-at : (k : ℕ) → contractLines (entryIn (rowsOf (B .entry) 5)) (ownEnergy (rowsOfAccount B account .energies)) (B .contract k) ≡ contractLinesAt (B .entry) (ownEntry own) (B .contract) k
+  paid-at : (k : ℕ) → contractLines (entryIn (rowsOf (B .entry) 5)) (ownEnergy (rowsOfAccount B account .energies)) (B .contract k) ≡ contractLinesAt (B .entry) (entryOf own) (B .contract) k
   unfolding contractLinesAt
   paid-at k = paid-link (B .contract k)
 

@@ -13,9 +13,9 @@ use Rattle.records.specs.declared.rows.UnitRow.{UnitRow}
 use Rattle.records.specs.declared.rows.Contract.{Contract}
 use Rattle.factors.specs.Naming.{idOf, keyOf}
 use Rattle.totals.specs.Divisors.{divisorOf}
-use Rattle.amounts.specs.Own.{ownEntry}
+use Rattle.totals.specs.Totals.{entryOf}
+use Rattle.totals.specs.declared.entries.Totals.{Totals}
 use Rattle.amounts.specs.Pools.{halvesOf}
-use Rattle.amounts.specs.declared.own.Own.{Own}
 use Rattle.amounts.specs.declared.pools.Halves.{Halves}
 use Rattle.accounts.specs.Rows.{joined}
 use Rattle.accounts.proofs.Joined.{joined-none, joined-more, joined-all, joined-room}
@@ -45,7 +45,7 @@ module _ (f : ℕ → List Line) {l : List ℕ} {t : ℕ} where
 
 -- ---- constraints; r is constraint j, and total what it divides by
 
-module _ (entry : ℕ → Entry) (con : ℕ → Constraint) (n : ℕ) (unit : ℕ → UnitRow) (m account : ℕ) (own : Own) (j : ℕ) {r : Constraint} {total : ℕ} (e : r ≡ con j) (d : total ≡ divisorOf entry r) where
+module _ (entry : ℕ → Entry) (con : ℕ → Constraint) (n : ℕ) (unit : ℕ → UnitRow) (m account : ℕ) (own : Totals) (j : ℕ) {r : Constraint} {total : ℕ} (e : r ≡ con j) (d : total ≡ divisorOf entry r) where
   pub settles-at : Ready entry con n unit m own → j < n → Settles unit m r own total
   settles-at h l =
       record {
@@ -55,14 +55,14 @@ module _ (entry : ℕ → Entry) (con : ℕ → Constraint) (n : ℕ) (unit : �
         shared = rw (d, e) (h .shared j l);
       }
 
-  lines-at : conLines unit m account r (divisorOf (ownEntry own) r) total ≡ conLinesAt entry con unit m account own j
+  lines-at : conLines unit m account r (divisorOf (entryOf own) r) total ≡ conLinesAt entry con unit m account own j
   unfolding conLinesAt
   lines-at = rw (d, e)
 
-  pub con-room : {l : List ℕ} {t : ℕ} → Room l t (length (conLinesAt entry con unit m account own j)) → Room l t (length (conLines unit m account r (divisorOf (ownEntry own) r) total))
+  pub con-room : {l : List ℕ} {t : ℕ} → Room l t (length (conLinesAt entry con unit m account own j)) → Room l t (length (conLines unit m account r (divisorOf (entryOf own) r) total))
   con-room h = rw lines-at h
 
-  pub con-out : {l : List ℕ} {t : ℕ} {b : List ℕ} {x : Cursor} → LinesDone unit m r (conLines unit m account r (divisorOf (ownEntry own) r) total) l t b x → Emitted l t (conLinesAt entry con unit m account own j) b (x .place)
+  pub con-out : {l : List ℕ} {t : ℕ} {b : List ℕ} {x : Cursor} → LinesDone unit m r (conLines unit m account r (divisorOf (entryOf own) r) total) l t b x → Emitted l t (conLinesAt entry con unit m account own j) b (x .place)
   con-out h = rw lines-at at (h .out)
 
 -- ---- a contract's region

@@ -12,8 +12,8 @@ use Rattle.sections.proofs.Search.{some-none}
 use Rattle.records.specs.Rows.{constraintRow, contractRow}
 use Rattle.records.specs.Facts.{ConstraintRule}
 use Rattle.records.specs.declared.rows.Constraint.{Constraint}
+use Rattle.totals.specs.declared.entries.Totals.{Totals}
 use Rattle.amounts.specs.Pools.{poolsOf}
-use Rattle.amounts.specs.declared.own.Own.{Own}
 use Rattle.amounts.proofs.Sizes.{pools-small, residual-small, halves-small}
 use Rattle.book.specs.Book.{Book, bookIn}
 use Rattle.book.specs.Header.{contractsFrom}
@@ -60,7 +60,7 @@ module _ (B : Book) (p : Promise B) where
 
   -- ---- its lines
 
-  module _ (own : Own) (w : Walkable B own) where
+  module _ (own : Totals) (w : Walkable B own) where
     kinds-within : EachKind Within B own
     kinds-within =
         record {

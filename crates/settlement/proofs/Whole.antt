@@ -7,7 +7,7 @@ use lib.ListN.{length, length-append}
 use native.Mathlib.Omega.{arith}
 use Rattle.ground.specs.Put.{put, Wrote}
 use Rattle.ground.proofs.Put.{wrote-front}
-use Rattle.amounts.specs.declared.own.Own.{Own}
+use Rattle.totals.specs.declared.entries.Totals.{Totals}
 use Rattle.accounts.specs.Account.{Public, Rows, publicOf, unknown}
 use Rattle.book.specs.Book.{Book}
 use Rattle.statement.specs.Statement.{headingBytes, linesBytes, statementBytes}
@@ -34,7 +34,7 @@ statement-out hd ls {l} {a} {b} m w =
     }
 
 -- the header says how many lines there are, as their end tells
-pub whole-out : (B : Book) (own : Own) (account : ℕ) {l a b : List ℕ} {e f : ℕ} → Emitted l 24 (bookLines B account own) a e → Wrote a 0 (headingBytes (headingOf account (publicOf B) (e / 24 - 1))) b f → Wrote l 0 (wholeOf account B own) b e
+pub whole-out : (B : Book) (own : Totals) (account : ℕ) {l a b : List ℕ} {e f : ℕ} → Emitted l 24 (bookLines B account own) a e → Wrote a 0 (headingBytes (headingOf account (publicOf B) (e / 24 - 1))) b f → Wrote l 0 (wholeOf account B own) b e
 unfolding wholeOf
 whole-out B own account {e = e} m w =
     let n : e / 24 - 1 ≡ length (bookLines B account own) = omega (arith, m .next) in

@@ -10,8 +10,8 @@ use Rattle.records.specs.declared.rows.Entry.{Entry}
 use Rattle.records.specs.declared.rows.Contract.{Contract}
 use Rattle.factors.specs.Naming.{idOf, keyOf}
 use Rattle.factors.specs.Runs.{Walked}
+use Rattle.totals.specs.declared.entries.Totals.{Totals}
 use Rattle.amounts.specs.Pools.{poolsOf}
-use Rattle.amounts.specs.declared.own.Own.{Own}
 use Rattle.accounts.specs.Rows.{joined}
 use Rattle.book.specs.Book.{Book}
 use Rattle.settlement.specs.Settle.{regionLines}
@@ -44,7 +44,7 @@ pub record Countable (con : ℕ → Constraint) (n : ℕ) (unit : ℕ → UnitRo
 
 -- the lines of the first n constraints, whatever the energies
 pub record ConstraintsCounted (con : ℕ → Constraint) (n : ℕ) (unit : ℕ → UnitRow) (m account x : ℕ) : Type 0 where
-  pub lines : (entry : ℕ → Entry) (own : Own) → x ≡ length (joined (conLinesAt entry con unit m account own) n)
+  pub lines : (entry : ℕ → Entry) (own : Totals) → x ≡ length (joined (conLinesAt entry con unit m account own) n)
   pub few : x ≤ n * 1803
 
 pub record ContractCounted (k : Contract) (x : ℕ) : Type 0 where
@@ -57,5 +57,5 @@ pub record ContractsCounted (contract : ℕ → Contract) (n x : ℕ) : Type 0 w
 
 -- all lines of an account
 pub record BookCounted (B : Book) (account x : ℕ) : Type 0 where
-  pub lines : (own : Own) → x ≡ length (bookLines B account own)
+  pub lines : (own : Totals) → x ≡ length (bookLines B account own)
   pub few : x ≤ 200000

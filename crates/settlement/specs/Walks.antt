@@ -17,9 +17,9 @@ use Rattle.records.specs.declared.rows.Contract.{Contract}
 use Rattle.factors.specs.Naming.{idOf, keyOf}
 use Rattle.factors.specs.Runs.{Walked}
 use Rattle.totals.specs.Divisors.{divisorOf}
+use Rattle.totals.specs.Totals.{entryOf}
+use Rattle.totals.specs.declared.entries.Totals.{Totals}
 use Rattle.amounts.specs.Pools.{poolsOf, residualOf}
-use Rattle.amounts.specs.Own.{ownEntry}
-use Rattle.amounts.specs.declared.own.Own.{Own}
 use Rattle.amounts.specs.declared.pools.Pools.{Pools}
 use Rattle.accounts.specs.Rows.{joined}
 use Rattle.accounts.specs.Account.{publicOf, rowsOfAccount, unknown}
@@ -51,12 +51,12 @@ conLines unit m account r o t =
     (joined (unitLinesAt unit account r (poolsOf r)) m ++ restLines r (residualOf r (poolsOf r)) o t)
 
 -- what settling a constraint rests on
-pub record Settles (unit : ℕ → UnitRow) (m : ℕ) (r : Constraint) (own : Own) (total : ℕ) : Type 0 where
+pub record Settles (unit : ℕ → UnitRow) (m : ℕ) (r : Constraint) (own : Totals) (total : ℕ) : Type 0 where
   pub rule : ConstraintRule r
   -- no unit row names a constraint of mode 0
   pub bare : r .mode ≡ 0 → (u : ℕ) → u < m → keyOf unit u ≡ r .id → ⊥
-  pub energy : (g : ℕ) → g < 5 → EntryRule (ownEntry own g)
-  pub shared : Shared (divisorOf (ownEntry own) r) total
+  pub energy : (g : ℕ) → g < 5 → EntryRule (entryOf own g)
+  pub shared : Shared (divisorOf (entryOf own) r) total
 
 -- the lines ls of constraint r are out, and the cursor stands behind its unit rows
 pub record LinesDone (unit : ℕ → UnitRow) (m : ℕ) (r : Constraint) (ls : List Line) (l : List ℕ) (k : ℕ) (b : List ℕ) (x : Cursor) : Type 0 where
@@ -64,43 +64,43 @@ pub record LinesDone (unit : ℕ → UnitRow) (m : ℕ) (r : Constraint) (ls : L
   pub out : Emitted l k ls b (x .place)
 
 -- constraint j's lines
-unfoldable pub conLinesAt : (ℕ → Entry) → (ℕ → Constraint) → (ℕ → UnitRow) → ℕ → ℕ → Own → ℕ → List Line
-conLinesAt entry con unit m account own j = conLines unit m account (con j) (divisorOf (ownEntry own) (con j)) (divisorOf entry (con j))
+unfoldable pub conLinesAt : (ℕ → Entry) → (ℕ → Constraint) → (ℕ → UnitRow) → ℕ → ℕ → Totals → ℕ → List Line
+conLinesAt entry con unit m account own j = conLines unit m account (con j) (divisorOf (entryOf own) (con j)) (divisorOf entry (con j))
 
 -- what settling n constraints rests on
-pub record Ready (entry : ℕ → Entry) (con : ℕ → Constraint) (n : ℕ) (unit : ℕ → UnitRow) (m : ℕ) (own : Own) : Type 0 where
+pub record Ready (entry : ℕ → Entry) (con : ℕ → Constraint) (n : ℕ) (unit : ℕ → UnitRow) (m : ℕ) (own : Totals) : Type 0 where
   pub rules : (j : ℕ) → j < n → ConstraintRule (con j)
   pub walked : Walked unit m
   pub rise : Rises (idOf con) n
   pub names : Names (keyOf unit) m (idOf con) n
   pub bare : (j : ℕ) → j < n → con j .mode ≡ 0 → (u : ℕ) → u < m → keyOf unit u ≡ con j .id → ⊥
   pub entries : (g : ℕ) → g < 5 → EntryRule (entry g)
-  pub energy : (g : ℕ) → g < 5 → EntryRule (ownEntry own g)
-  pub shared : (j : ℕ) → j < n → Shared (divisorOf (ownEntry own) (con j)) (divisorOf entry (con j))
+  pub energy : (g : ℕ) → g < 5 → EntryRule (entryOf own g)
+  pub shared : (j : ℕ) → j < n → Shared (divisorOf (entryOf own) (con j)) (divisorOf entry (con j))
 
 -- contract i's lines, its regions rising
 unfoldable pub contractLinesAt : (ℕ → Entry) → (ℕ → Entry) → (ℕ → Contract) → ℕ → List Line
 contractLinesAt entry own contract i = joined (regionLines entry own (contract i)) 5
 
 -- what settling a contract rests on
-pub record Payable (entry : ℕ → Entry) (k : Contract) (own : Own) : Type 0 where
+pub record Payable (entry : ℕ → Entry) (k : Contract) (own : Totals) : Type 0 where
   pub rule : ContractRule k
-  pub ace : (g : ℕ) → g < 5 → (factorOf (k .factors) g ≡ 0 → ⊥) → Shared (ownEntry own g .ace) (entry g .ace)
-  pub asoe : (g : ℕ) → g < 5 → (factorOf (k .factors) g ≡ 0 → ⊥) → Shared (ownEntry own g .asoe) (entry g .asoe)
+  pub ace : (g : ℕ) → g < 5 → (factorOf (k .factors) g ≡ 0 → ⊥) → Shared (entryOf own g .ace) (entry g .ace)
+  pub asoe : (g : ℕ) → g < 5 → (factorOf (k .factors) g ≡ 0 → ⊥) → Shared (entryOf own g .asoe) (entry g .asoe)
 
 -- all lines of an account as the walk meets them
-unfoldable pub bookLines : Book → ℕ → Own → List Line
+unfoldable pub bookLines : Book → ℕ → Totals → List Line
 bookLines B account own =
     joined (conLinesAt (B .entry) (B .constraint) (B .unit) (B .header .units) account own) (B .header .constraints)
-    ++ joined (contractLinesAt (B .entry) (ownEntry own) (B .contract)) (B .header .contracts)
+    ++ joined (contractLinesAt (B .entry) (entryOf own) (B .contract)) (B .header .contracts)
 
 -- what the walk over a book rests on
-pub record Walkable (B : Book) (own : Own) : Type 0 where
+pub record Walkable (B : Book) (own : Totals) : Type 0 where
   pub ready : Ready (B .entry) (B .constraint) (B .header .constraints) (B .unit) (B .header .units) own
   pub payable : (k : ℕ) → k < B .header .contracts → Payable (B .entry) (B .contract k) own
 
 -- what is known of an account that a row of the book names, once its own energy is read
-pub record Owned (B : Book) (account : ℕ) (own : Own) : Type 0 where
+pub record Owned (B : Book) (account : ℕ) (own : Totals) : Type 0 where
   pub known : unknown (rowsOfAccount B account) ≡ false
   pub lines : linesOf (publicOf B) (rowsOfAccount B account) ≡ bookLines B account own
   pub few : length (bookLines B account own) ≤ 2152
@@ -112,5 +112,5 @@ pub record Fits (ls : List Line) (n : ℕ) : Type 0 where
   pub room : 24 + length ls * 24 ≤ n
 
 -- the statement as it is written, from a book and the account's own energy
-unfoldable pub wholeOf : ℕ → Book → Own → List ℕ
+unfoldable pub wholeOf : ℕ → Book → Totals → List ℕ
 wholeOf account B own = statementBytes (headingOf account (publicOf B) (length (bookLines B account own))) (bookLines B account own)

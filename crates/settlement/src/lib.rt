@@ -14,18 +14,18 @@ ghost use Rattle.book.specs.Facts.{Laid};
 ghost use Rattle.book.specs.Accepted.{Promise};
 ghost use Rattle.accounts.specs.Account.{publicOf, rowsOfAccount};
 ghost use Rattle.statement.specs.Lent.{Lent};
-ghost use Rattle.amounts.specs.declared.own.Own.{Own};
+ghost use Rattle.totals.specs.declared.entries.Totals.{Totals};
 ghost use Rattle.settlement.specs.Settle.{settled, outcome};
 ghost use Rattle.settlement.specs.Walks.{bookLines, wholeOf, Walkable, Fits, Owned};
-use amounts::own::Own;
 use book::header;
 use book::header::Header;
 use sections::Verdict;
 use statement::Heading;
 use statement::Written;
+use totals::entries::Totals;
 
 // The lines, and then the header, which says how many they are, into a buffer that has room for them. Answers where they end.
-fn write(buffer: &mut [u8], book: &[u8], h: Header, own: Own, account: u32) -> usize
+fn write(buffer: &mut [u8], book: &[u8], h: Header, own: Totals, account: u32) -> usize
     requires { ⌜ Laid (now book) h ⌝ }
     requires { ⌜ Walkable (bookIn (now book) h) own ⌝ }
     requires { ⌜ Fits (bookLines (bookIn (now book) h) account own) (length (now buffer)) ⌝ }
@@ -47,7 +47,7 @@ fn write(buffer: &mut [u8], book: &[u8], h: Header, own: Own, account: u32) -> u
 fn is_short(book: &[u8], h: Header, account: u32, room: usize) -> bool
     requires { ⌜ Laid (now book) h ⌝ }
     requires { ⌜ Promise (bookIn (now book) h) ⌝ }
-    ensures { λ b. ⌜ ((own : Own) → b ≡ ltb room (24 + length (bookLines (bookIn (now (book .entry)) h) account own) * 24)) ⌝ }
+    ensures { λ b. ⌜ ((own : Totals) → b ≡ ltb room (24 + length (bookLines (bookIn (now (book .entry)) h) account own) * 24)) ⌝ }
 {
     if 51672 <= room {
         return false;
@@ -56,7 +56,7 @@ fn is_short(book: &[u8], h: Header, account: u32, room: usize) -> bool
 }
 
 // Both tests come before the first byte is written: 12, then 13.
-fn test_and_write(book: &[u8], h: Header, own: Own, account: u32, buffer: &mut [u8]) -> Written
+fn test_and_write(book: &[u8], h: Header, own: Totals, account: u32, buffer: &mut [u8]) -> Written
     requires { ⌜ Laid (now book) h ⌝ }
     requires { ⌜ Promise (bookIn (now book) h) ⌝ }
     requires { ⌜ Owned (bookIn (now book) h) account own ⌝ }

@@ -8,13 +8,11 @@ ghost use Rattle.records.specs.Facts.{UnitRule};
 ghost use Rattle.factors.specs.Naming.{keyOf};
 ghost use Rattle.factors.specs.Runs.{Walked};
 ghost use Rattle.totals.specs.Divisors.{divisorOf};
+ghost use Rattle.totals.specs.Totals.{entryOf};
 ghost use Rattle.amounts.specs.Bounds.{SmallPools};
-ghost use Rattle.amounts.specs.Own.{ownEntry};
 ghost use Rattle.accounts.specs.Rows.{joined};
 ghost use Rattle.lines.specs.Emitted.{Emitted, Room};
 ghost use Rattle.settlement.specs.Walks.{ownLines, unitLinesAt, UnitsDone, conLines, Settles, LinesDone};
-use amounts::own;
-use amounts::own::Own;
 use amounts::pools;
 use amounts::pools::Pools;
 use lines::groups;
@@ -22,6 +20,8 @@ use lines::make;
 use records::rows;
 use records::rows::Constraint;
 use records::rows::UnitRow;
+use totals::divisors;
+use totals::entries::Totals;
 
 // The lines of a unit row, where the account owns it.
 fn own_unit(
@@ -94,7 +94,7 @@ pub(crate) fn constraint_lines(
     m: usize,
     from: usize,
     r: Constraint,
-    own: Own,
+    own: Totals,
     total: u64,
     account: u32,
 ) -> Cursor
@@ -102,10 +102,10 @@ pub(crate) fn constraint_lines(
     requires { ⌜ Walked (unitRow (now units)) m ⌝ }
     requires { ⌜ Stands (keyOf (unitRow (now units))) m (r .id) from ⌝ }
     requires { ⌜ Settles (unitRow (now units)) m r own total ⌝ }
-    requires { ⌜ Room (now buf) place (length (conLines (unitRow (now units)) m account r (divisorOf (ownEntry own) r) total)) ⌝ }
-    ensures { λ x. ⌜ LinesDone (unitRow (now (units .entry))) m r (conLines (unitRow (now (units .entry))) m account r (divisorOf (ownEntry own) r) total) (now (buf .entry)) place (now (buf .exit)) x ⌝ }
+    requires { ⌜ Room (now buf) place (length (conLines (unitRow (now units)) m account r (divisorOf (entryOf own) r) total)) ⌝ }
+    ensures { λ x. ⌜ LinesDone (unitRow (now (units .entry))) m r (conLines (unitRow (now (units .entry))) m account r (divisorOf (entryOf own) r) total) (now (buf .entry)) place (now (buf .exit)) x ⌝ }
 {
-    let share = own::over_regions(own, r);
+    let share = divisors::over_regions(own, r);
     if r.mode == 0 {
         let line = make::contingency_line(r, share, total);
         let end = statement::put_line(buf, place, line);

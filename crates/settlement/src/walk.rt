@@ -3,15 +3,14 @@ ghost use mathlib.Core.Path.{_≡_};
 ghost use Prim.Native.Nat.{ℕ, _*_, _≤_, _<_};
 ghost use lib.ListN.{length};
 ghost use Rattle.records.specs.Rows.{entryRow, constraintRow, unitRow, contractRow};
+ghost use Rattle.totals.specs.Totals.{entryOf};
 ghost use Rattle.accounts.specs.Rows.{joined};
-ghost use Rattle.amounts.specs.Own.{ownEntry};
 ghost use Rattle.lines.specs.Emitted.{Emitted, Room};
 ghost use Rattle.settlement.specs.Settle.{regionLines};
 ghost use Rattle.settlement.specs.Walks.{conLinesAt, contractLinesAt, bookLines, Ready, Payable, Walkable};
 ghost use Rattle.book.specs.Book.{bookIn};
 ghost use Rattle.book.specs.Facts.{Laid};
 use crate::units;
-use amounts::own::Own;
 use amounts::pools;
 use book::header::Header;
 use lines::groups;
@@ -19,6 +18,7 @@ use lines::make;
 use records::rows;
 use records::rows::Contract;
 use totals::divisors;
+use totals::entries::Totals;
 
 // The lines of the n constraints. The cursor over the unit rows only moves forward.
 pub(crate) fn constraints(
@@ -29,7 +29,7 @@ pub(crate) fn constraints(
     n: usize,
     units: &[u8],
     m: usize,
-    own: Own,
+    own: Totals,
     account: u32,
 ) -> usize
     requires { ⌜ (60 ≤ length (now regions)) × ((n * 40 ≤ length (now cons)) × (m * 20 ≤ length (now units))) ⌝ }
@@ -58,12 +58,12 @@ fn region_lines(
     regions: &[u8],
     k: Contract,
     g: usize,
-    own: Own,
+    own: Totals,
 ) -> usize
     requires { ⌜ (60 ≤ length (now regions)) × (g < 5) ⌝ }
     requires { ⌜ Payable (entryRow (now regions)) k own ⌝ }
-    requires { ⌜ Room (now buf) place (length (regionLines (entryRow (now regions)) (ownEntry own) k g)) ⌝ }
-    ensures { λ x. ⌜ Emitted (now (buf .entry)) place (regionLines (entryRow (now (regions .entry))) (ownEntry own) k g) (now (buf .exit)) x ⌝ }
+    requires { ⌜ Room (now buf) place (length (regionLines (entryRow (now regions)) (entryOf own) k g)) ⌝ }
+    ensures { λ x. ⌜ Emitted (now (buf .entry)) place (regionLines (entryRow (now (regions .entry))) (entryOf own) k g) (now (buf .exit)) x ⌝ }
 {
     let factors = k.factors;
     let factor = factors[g];
@@ -79,11 +79,11 @@ fn region_lines(
     groups::emit_two(buf, place, by_ace, by_asoe)
 }
 
-fn contract_lines(buf: &mut [u8], place: usize, regions: &[u8], k: Contract, own: Own) -> usize
+fn contract_lines(buf: &mut [u8], place: usize, regions: &[u8], k: Contract, own: Totals) -> usize
     requires { ⌜ 60 ≤ length (now regions) ⌝ }
     requires { ⌜ Payable (entryRow (now regions)) k own ⌝ }
-    requires { ⌜ Room (now buf) place (length (joined (regionLines (entryRow (now regions)) (ownEntry own) k) 5)) ⌝ }
-    ensures { λ x. ⌜ Emitted (now (buf .entry)) place (joined (regionLines (entryRow (now (regions .entry))) (ownEntry own) k) 5) (now (buf .exit)) x ⌝ }
+    requires { ⌜ Room (now buf) place (length (joined (regionLines (entryRow (now regions)) (entryOf own) k) 5)) ⌝ }
+    ensures { λ x. ⌜ Emitted (now (buf .entry)) place (joined (regionLines (entryRow (now (regions .entry))) (entryOf own) k) 5) (now (buf .exit)) x ⌝ }
 {
     let mut end = place;
     let mut g = 0;
@@ -101,12 +101,12 @@ pub(crate) fn contracts(
     regions: &[u8],
     contracts: &[u8],
     n: usize,
-    own: Own,
+    own: Totals,
 ) -> usize
     requires { ⌜ (60 ≤ length (now regions)) × (n * 36 ≤ length (now contracts)) ⌝ }
     requires { ⌜ ((k : ℕ) → k < n → Payable (entryRow (now regions)) (contractRow (now contracts) k) own) ⌝ }
-    requires { ⌜ Room (now buf) place (length (joined (contractLinesAt (entryRow (now regions)) (ownEntry own) (contractRow (now contracts))) n)) ⌝ }
-    ensures { λ x. ⌜ Emitted (now (buf .entry)) place (joined (contractLinesAt (entryRow (now (regions .entry))) (ownEntry own) (contractRow (now (contracts .entry)))) n) (now (buf .exit)) x ⌝ }
+    requires { ⌜ Room (now buf) place (length (joined (contractLinesAt (entryRow (now regions)) (entryOf own) (contractRow (now contracts))) n)) ⌝ }
+    ensures { λ x. ⌜ Emitted (now (buf .entry)) place (joined (contractLinesAt (entryRow (now (regions .entry))) (entryOf own) (contractRow (now (contracts .entry)))) n) (now (buf .exit)) x ⌝ }
 {
     let mut end = place;
     let mut i = 0;
@@ -119,7 +119,7 @@ pub(crate) fn contracts(
 }
 
 // All lines of the account, behind the header: those of the constraints, then those of the contracts. Answers where they end.
-pub(crate) fn all_lines(buf: &mut [u8], book: &[u8], h: Header, own: Own, account: u32) -> usize
+pub(crate) fn all_lines(buf: &mut [u8], book: &[u8], h: Header, own: Totals, account: u32) -> usize
     requires { ⌜ Laid (now book) h ⌝ }
     requires { ⌜ Walkable (bookIn (now book) h) own ⌝ }
     requires { ⌜ Room (now buf) 24 (length (bookLines (bookIn (now book) h) account own)) ⌝ }

@@ -15,12 +15,12 @@ use Rattle.sections.specs.declared.Verdict.the-variants.{Accepted, Refused}
 use Rattle.sections.proofs.Search.{some-found}
 use Rattle.records.specs.Rows.{constraintRow, unitRow, contractRow}
 use Rattle.records.specs.declared.rows.EnergyRow.{EnergyRow}
+use Rattle.totals.specs.Totals.{entryOf}
+use Rattle.totals.specs.declared.entries.Totals.{Totals}
 use Rattle.book.specs.Header.{headerOf, unitsFrom, contractsFrom}
 use Rattle.book.specs.Book.{Book, bookOf}
 use Rattle.book.specs.Table.{verdict}
 use Rattle.book.specs.Accepted.{Promise}
-use Rattle.amounts.specs.Own.{ownEntry}
-use Rattle.amounts.specs.declared.own.Own.{Own}
 use Rattle.accounts.specs.Rows.{rowsOf, keep, none}
 use Rattle.accounts.specs.Account.{publicOf, rowsOfAccount, ownEnergy, unknown}
 use Rattle.accounts.specs.Held.{HeldIs}
@@ -80,7 +80,7 @@ one-false true b e = inr e
 one-false false b e = inl refl
 
 -- the account's own energy, region by region
-abbrev ownOf : List EnergyRow → Own
+abbrev ownOf : List EnergyRow → Totals
 ownOf rows =
     let e = ownEnergy rows in
     record {
@@ -89,7 +89,7 @@ ownOf rows =
       residual = e 0 .residual ∷ e 1 .residual ∷ e 2 .residual ∷ e 3 .residual ∷ e 4 .residual ∷ [];
     }
 
-own-is : (rows : List EnergyRow) (g : ℕ) → g < 5 → ownEntry (ownOf rows) g ≡ ownEnergy rows g
+own-is : (rows : List EnergyRow) (g : ℕ) → g < 5 → entryOf (ownOf rows) g ≡ ownEnergy rows g
 unfolding ownEnergy
 own-is rows zero l = refl
 own-is rows (suc zero) l = refl

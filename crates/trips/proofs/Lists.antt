@@ -14,11 +14,11 @@ use Rattle.records.specs.declared.rows.Constraint.{Constraint}
 use Rattle.records.specs.declared.rows.UnitRow.{UnitRow}
 use Rattle.records.specs.declared.rows.Contract.{Contract}
 use Rattle.factors.specs.Naming.{keyOf}
+use Rattle.totals.specs.Totals.{entryOf}
+use Rattle.totals.specs.declared.entries.Totals.{Totals}
 use Rattle.book.specs.Book.{Book}
 use Rattle.book.specs.Accepted.{Promise}
-use Rattle.amounts.specs.Own.{ownEntry}
 use Rattle.amounts.specs.Pools.{poolsOf, residualOf, halvesOf}
-use Rattle.amounts.specs.declared.own.Own.{Own}
 use Rattle.amounts.specs.declared.pools.Pools.{Pools}
 use Rattle.amounts.specs.declared.pools.Residual.{Residual}
 use Rattle.accounts.specs.Rows.{joined}
@@ -73,16 +73,16 @@ region-due entry own k h f g l =
 
 -- ---- the whole book
 
-module _ (B : Book) (p : Promise B) (n : Narrow B) (account : ℕ) (own : Own) where
+module _ (B : Book) (p : Promise B) (n : Narrow B) (account : ℕ) (own : Totals) where
   constraint-at : (j : ℕ) → j < B .header .constraints → Each Due (conLinesAt (B .entry) (B .constraint) (B .unit) (B .header .units) account own j)
   unfolding conLinesAt
   constraint-at j l =
       constraint-due (B .constraint j) (p .fields .constraints j l) (n .constraints j) (B .unit) (B .header .units) (p .fields .units) (n .units) account _ _
 
-  contract-at : (k : ℕ) → k < B .header .contracts → Each Due (contractLinesAt (B .entry) (ownEntry own) (B .contract) k)
+  contract-at : (k : ℕ) → k < B .header .contracts → Each Due (contractLinesAt (B .entry) (entryOf own) (B .contract) k)
   unfolding contractLinesAt
   contract-at k l =
-      each-joined Due (regionLines (B .entry) (ownEntry own) (B .contract k)) 5 (region-due (B .entry) (ownEntry own) (B .contract k) (p .fields .contracts k l) (n .contracts k))
+      each-joined Due (regionLines (B .entry) (entryOf own) (B .contract k)) 5 (region-due (B .entry) (entryOf own) (B .contract k) (p .fields .contracts k l) (n .contracts k))
 
   pub book-due : Each Due (bookLines B account own)
   unfolding bookLines

@@ -4,15 +4,15 @@ use native.Mathlib.Omega.{arith}
 use Rattle.settlement.proofs.Loops.{out-start, out-room, out-more, out-all}
 use Rattle.settlement.specs.Settle.{regionLines}
 use Rattle.records.specs.Rows.{entryRow}
+use Rattle.totals.specs.Totals.{entryOf}
 use Rattle.lines.proofs.Emission.{emitted-length}
 use Rattle.lines.specs.Emitted.{Emitted}
-use Rattle.amounts.specs.Own.{ownEntry}
 use Rattle.accounts.specs.Rows.{joined}
 use Rattle.settlement.proofs.walk.contract_lines.Statement.{statement}
 use Rattle.settlement.proofs.walk.contract_lines.Tie as tie
 
 abbrev Inv-loop : tie.InvT-loop
-Inv-loop buf₀ place regions k own end₀ g₀ buf end g = (g ≤ 5) × Emitted buf₀ place (joined (regionLines (entryRow regions) (ownEntry own) k) g) buf end
+Inv-loop buf₀ place regions k own end₀ g₀ buf end g = (g ≤ 5) × Emitted buf₀ place (joined (regionLines (entryRow regions) (entryOf own) k) g) buf end
 
 abbrev μ-loop : tie.MeasureT-loop
 μ-loop buf₀ place regions k own end₀ g₀ buf end g = 5 - g

@@ -4,15 +4,15 @@ use native.Mathlib.Omega.{arith}
 use Rattle.settlement.proofs.Loops.{out-start, out-room, out-more, out-all, contract-room, contract-out}
 use Rattle.settlement.specs.Walks.{contractLinesAt}
 use Rattle.records.specs.Rows.{entryRow, contractRow}
+use Rattle.totals.specs.Totals.{entryOf}
 use Rattle.lines.proofs.Emission.{emitted-length}
 use Rattle.lines.specs.Emitted.{Emitted}
-use Rattle.amounts.specs.Own.{ownEntry}
 use Rattle.accounts.specs.Rows.{joined}
 use Rattle.settlement.proofs.walk.contracts.Statement.{statement}
 use Rattle.settlement.proofs.walk.contracts.Tie as tie
 
 abbrev Inv-loop : tie.InvT-loop
-Inv-loop buf₀ place regions contracts n own end₀ i₀ buf end i = (i ≤ n) × Emitted buf₀ place (joined (contractLinesAt (entryRow regions) (ownEntry own) (contractRow contracts)) i) buf end
+Inv-loop buf₀ place regions contracts n own end₀ i₀ buf end i = (i ≤ n) × Emitted buf₀ place (joined (contractLinesAt (entryRow regions) (entryOf own) (contractRow contracts)) i) buf end
 
 abbrev μ-loop : tie.MeasureT-loop
 μ-loop buf₀ place regions contracts n own end₀ i₀ buf end i = n - i
