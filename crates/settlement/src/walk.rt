@@ -37,12 +37,13 @@ pub(crate) fn constraints(
     requires { ⌜ Room (now buf) place (length (joined (conLinesAt (entryRow (now regions)) (constraintRow (now cons)) (unitRow (now units)) m account own) n)) ⌝ }
     ensures { λ x. ⌜ Emitted (now (buf .entry)) place (joined (conLinesAt (entryRow (now (regions .entry))) (constraintRow (now (cons .entry))) (unitRow (now (units .entry))) m account own) n) (now (buf .exit)) x ⌝ }
 {
+    let all = divisors::totals_of(regions);
     let mut end = place;
     let mut at = 0;
     let mut j = 0;
     while j < n {
         let r = rows::constraint_row(cons, j);
-        let total = divisors::divisor(regions, r);
+        let total = divisors::over_regions(all, r);
         let out = units::constraint_lines(buf, end, units, m, at, r, own, total, account);
         end = out.place;
         at = out.next;

@@ -1,4 +1,4 @@
-// Check 10: no total to divide by is zero, though the pool be 0.
+// The energy over a constraint's regions, and check 10: no total to divide by is zero, though the pool be 0.
 ghost use mathlib.Core.Path.{_≡_};
 ghost use Prim.Native.Nat.{ℕ, _+_, _*_, _≤_, _<_};
 ghost use lib.ListN.{length};

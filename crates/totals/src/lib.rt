@@ -1,3 +1,3 @@
 // Checks 9 and 10: the region entries against the energy rows, and the totals to divide by.
 pub mod entries; // entries.rt: check 9, each region's entry is the sum of its rows
-pub mod divisors; // divisors.rt: check 10, no total to divide by is zero
+pub mod divisors; // divisors.rt: the energy over a constraint's regions; check 10, no total to divide by is zero

@@ -28,10 +28,10 @@ use Rattle.accounts.specs.declared.Held.{Held}
 use Rattle.accounts.proofs.Lists.{some-rows}
 use Rattle.accounts.proofs.Own.{held-unknown}
 use Rattle.statement.specs.Lent.{Outcome, refuses, gives}
-use Rattle.lines.specs.Emitted.{anyOver}
+use Rattle.lines.specs.Limit.{anyOver}
 use Rattle.settlement.specs.Settle.{linesOf, statementOf, settled, ifAccepted, outcome}
 use Rattle.settlement.specs.Walks.{Owned}
-use Rattle.settlement.proofs.Ends.{owned-of}
+use Rattle.settlement.proofs.Ends.{own-of}
 use Rattle.trips.proofs.Due.{Narrow}
 
 -- ---- a call that gives bytes passed every check
@@ -116,7 +116,7 @@ module _ (B : Book) (p : Promise B) (account : ℕ) (known : unknown (rowsOfAcco
       let rows = keep (λ r. eqb (r .account) account) (rowsOf (B .energy) (B .header .energies)) in
       let held : Held = record { own = ownOf rows; any = not (none rows) } in
       let is : HeldIs (B .energy) (B .header .energies) account held = record { own = own-is rows; any = refl } in
-      owned-of B account p is refl (held-unknown B is refl ∙ known)
+      own-of B account p is known
 
 -- ---- ids in the bytes of a book
 

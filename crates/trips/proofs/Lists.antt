@@ -26,9 +26,10 @@ use Rattle.accounts.proofs.Joined.{each-joined}
 use Rattle.statement.specs.declared.Line.{Line}
 use Rattle.reading.specs.Writable.{WritableLine}
 use Rattle.lines.specs.Lines.{unitLines, restLines}
-use Rattle.lines.specs.Emitted.{passesLimit, anyOver}
+use Rattle.lines.specs.Limit.{passesLimit, anyOver}
 use Rattle.settlement.specs.Settle.{regionLines}
 use Rattle.settlement.specs.Walks.{ownLines, unitLinesAt, conLines, conLinesAt, contractLinesAt, bookLines}
+use Rattle.settlement.proofs.EachLine.{EachKind, each-line}
 use Rattle.trips.proofs.Due.{Due, Narrow}
 use Rattle.trips.proofs.Lines.{contingency-due, fpp-rest-due, used-rest-due, unused-rest-due, fpp-due, used-due, unused-due, ace-due, asoe-due}
 
@@ -49,47 +50,23 @@ module _ (r : Constraint) (h : ConstraintRule r) (f : r .id < 2 ^ 32) where
       (fpp-rest-due r h f x te ate, (used-rest-due r h f x te ate, (unused-rest-due r h f x te ate, tt)))
       (unused-rest-due r h f x te ate, tt)
 
-  module _ (unit : ℕ → UnitRow) (m : ℕ) (rules : (u : ℕ) → u < m → UnitRule (unit u)) (small : (u : ℕ) → unit u .unit < 2 ^ 32) (account : ℕ) where
-    row-due : (p : Pools) (u : ℕ) → u < m → Each Due (unitLinesAt unit account r p u)
-    unfolding unitLinesAt ownLines
-    row-due p u l =
-        each-choice Due (eqb (keyOf unit u) (r .id)) _ [] (each-choice Due (eqb (unit u .account) account) _ [] (unit-due p (unit u) (rules u l .unit) (small u)) tt) tt
-
-    constraint-due : (own total : ℕ) → Each Due (conLines unit m account r own total)
-    unfolding conLines
-    constraint-due own total =
-        each-choice Due (eqb (r .mode) 0) _ _
-        (contingency-due r h f own total, tt)
-        (each-append Due (joined (unitLinesAt unit account r (poolsOf r)) m) _ (each-joined Due (unitLinesAt unit account r (poolsOf r)) m (row-due (poolsOf r))) (rest-due (residualOf r (poolsOf r)) own total))
-
--- ---- a contract
-
-region-due : (entry own : ℕ → Entry) (k : Contract) → ContractRule k → k .id < 2 ^ 32 → (g : ℕ) → g < 5 → Each Due (regionLines entry own k g)
-unfolding regionLines
-region-due entry own k h f g l =
-    let x = halvesOf (k .payment) (factorOf (k .factors) g) in
-    each-choice Due (eqb (factorOf (k .factors) g) 0) [] _ tt
-    (ace-due (k .id) (h .id) f g l x (own g .ace) (entry g .ace), (asoe-due (k .id) (h .id) f g l x (own g .asoe) (entry g .asoe), tt))
-
 -- ---- the whole book
 
-module _ (B : Book) (p : Promise B) (n : Narrow B) (account : ℕ) (own : Totals) where
-  constraint-at : (j : ℕ) → j < B .header .constraints → Each Due (conLinesAt (B .entry) (B .constraint) (B .unit) (B .header .units) account own j)
-  unfolding conLinesAt
-  constraint-at j l =
-      constraint-due (B .constraint j) (p .fields .constraints j l) (n .constraints j) (B .unit) (B .header .units) (p .fields .units) (n .units) account _ _
+module _ (B : Book) (p : Promise B) (n : Narrow B) (own : Totals) where
+  kinds-due : EachKind Due B own
+  kinds-due =
+      record {
+        contingency = λ j l. contingency-due (B .constraint j) (p .fields .constraints j l) (n .constraints j) _ _;
+        units = λ j l u m. unit-due (B .constraint j) (p .fields .constraints j l) (n .constraints j) _ (B .unit u) (p .fields .units u m .unit) (n .units u);
+        rest = λ j l. rest-due (B .constraint j) (p .fields .constraints j l) (n .constraints j) _ _ _;
+        region = λ k l g m d. (
+          ace-due (B .contract k .id) (p .fields .contracts k l .id) (n .contracts k) g m _ _ _,
+          (asoe-due (B .contract k .id) (p .fields .contracts k l .id) (n .contracts k) g m _ _ _, tt),
+        );
+      }
 
-  contract-at : (k : ℕ) → k < B .header .contracts → Each Due (contractLinesAt (B .entry) (entryOf own) (B .contract) k)
-  unfolding contractLinesAt
-  contract-at k l =
-      each-joined Due (regionLines (B .entry) (entryOf own) (B .contract k)) 5 (region-due (B .entry) (entryOf own) (B .contract k) (p .fields .contracts k l) (n .contracts k))
-
-  pub book-due : Each Due (bookLines B account own)
-  unfolding bookLines
-  book-due =
-      each-append Due (joined (conLinesAt (B .entry) (B .constraint) (B .unit) (B .header .units) account own) (B .header .constraints)) _
-      (each-joined Due _ (B .header .constraints) constraint-at)
-      (each-joined Due _ (B .header .contracts) contract-at)
+  pub book-due : (account : ℕ) → Each Due (bookLines B account own)
+  book-due account = each-line Due B own kinds-due account
 
 -- ---- under the limit
 
