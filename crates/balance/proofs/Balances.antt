@@ -22,7 +22,7 @@ use Rattle.accounts.specs.Rows.{sumOf}
 use Rattle.accounts.specs.Account.{publicOf, rowsOfAccount}
 use Rattle.parties.specs.Parties.{shareIn, partSum, Shareable}
 use Rattle.parties.specs.declared.shares.Part.{Part}
-use Rattle.parties.proofs.Sums.{sum-plus, sum-none}
+use Rattle.parties.proofs.Sums.{sum-same, sum-plus, sum-none}
 use Rattle.parties.proofs.Everyone.{each-once-unit, part-everyone}
 use Rattle.settlement.specs.Settle.{linesOf}
 use Rattle.balance.specs.Pools.{Pool, recovers, constraintPool, benefiting, contractPool, inPool}
@@ -37,11 +37,6 @@ use Rattle.balance.proofs.PoolLines.{ownUnits, regionShare, contingency
 -- ---- sums over a list
 
 module _ {A : Type 0} where
-  pub sum-same : (f g : A → ℕ) (l : List A) → ((a : A) → f a ≡ g a) → sumOf f l ≡ sumOf g l
-  unfolding sumOf
-  sum-same f g [] h = refl
-  sum-same f g (a ∷ l) h = ap₂ _+_ (h a) (sum-same f g l h)
-
   -- of numbers with a sign, by what is credited and charged
   sum-less : (z : A → ℤ) (f g : A → ℕ) (l : List A) → ((a : A) → z a ≡ less (f a) (g a)) → sumZ z l ≡ less (sumOf f l) (sumOf g l)
   unfolding sumZ sumOf

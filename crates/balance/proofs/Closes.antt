@@ -34,7 +34,7 @@ use Rattle.accounts.specs.Account.{publicOf}
 use Rattle.parties.specs.Within.{Within}
 use Rattle.parties.specs.Parties.{shareIn, partSum, Shareable}
 use Rattle.parties.specs.declared.shares.Part.{Part}
-use Rattle.parties.proofs.Sums.{sum-none}
+use Rattle.parties.proofs.Sums.{sum-same, sum-none}
 use Rattle.parties.proofs.Closing.{part-closing}
 use Rattle.balance.specs.Pools.{Pool, recovers, stagesOf, constraintPool, constraintPools, benefiting, contractPool, poolsIn, found, poolAt}
 use Rattle.balance.specs.Balance.{accountsOf, lineCount, lineSum, balanceIn}
@@ -43,7 +43,7 @@ use Rattle.balance.specs.declared.Balance.{Balance}
 use Rattle.balance.specs.declared.kinds.Kind.{Kind}
 use Rattle.balance.specs.declared.kinds.Kind.the-variants.{Contingency, Fpp, Used, Unused, Payment}
 use Rattle.balance.proofs.Shareables.{cost-shareable, credit-shareable, charge-shareable, consumed-shareable, sent-shareable}
-use Rattle.balance.proofs.Balances.{sum-same, count-times, shares-once, contingency-balance, regulation-balance, contract-balance}
+use Rattle.balance.proofs.Balances.{count-times, shares-once, contingency-balance, regulation-balance, contract-balance}
 use Rattle.balance.proofs.Found.{Each, each-none, each-more, each-pool}
 use Rattle.balance.proofs.Closeness.{size-within, within-plain, within-halves, within-total, Close, nothing, close-charge, close-one, close-unless, close-choice, close-plus, close-total, close-within}
 

@@ -1,5 +1,6 @@
 pub mod Energy
 pub mod Shareables
+pub mod Payments
 pub mod Own
 pub mod Kept
 pub mod PoolLines

@@ -1,42 +1,33 @@
 -- What the functions of each kind of pool need to know: sections where they stand in the book, and what an accepted book gives. Assumes nothing.
-use Prim.Native.Nat.{ℕ, _+_, _*_, _^_, _≤_, _<_}
-use mathlib.Core.Path.{_≡_, refl, sym, ap, subst, _∙_}
-use mathlib.Core.Bool.{Bool, true, false, cond}
+use Prim.Native.Nat.{ℕ, _+_, _*_, _≤_}
+use mathlib.Core.Path.{_≡_}
+use mathlib.Core.Bool.{true, false}
 use mathlib.Core.List.{List}
 use native.Mathlib.Omega.{arith}
-use native.Mathlib.Numerals.{add-one}
-use borrow.Author.Tests.{eq-eqb, ne-eqb}
-use lib.Dec.{eqb}
 use lib.IntN.{ℤ, pos}
 use lib.ListN.{length}
 use Rattle.ground.specs.Bytes.{partFrom}
 use Rattle.ground.specs.Sign.{less}
-use Rattle.sections.specs.Total.{total}
-use Rattle.records.specs.Rows.{entryRow, unitRow, energyRow}
-use Rattle.records.specs.Facts.{ConstraintRule, UnitRule, EntryRule}
-use Rattle.records.specs.Rules.{factorOf}
+use Rattle.records.specs.Rows.{unitRow, energyRow}
+use Rattle.records.specs.Facts.{ConstraintRule}
 use Rattle.records.specs.Kinds.{raises, regulates}
 use Rattle.records.specs.declared.rows.Constraint.{Constraint}
 use Rattle.records.specs.declared.rows.Contract.{Contract}
-use Rattle.records.specs.declared.rows.Entry.{Entry}
 use Rattle.totals.specs.Divisors.{divisorOf}
 use Rattle.book.specs.Book.{Book, bookIn}
 use Rattle.book.specs.Header.{unitsFrom, energiesFrom}
-use Rattle.book.specs.Facts.{Laid}
 use Rattle.book.specs.Accepted.{Promise}
 use Rattle.book.specs.declared.header.Header.{Header}
 use Rattle.amounts.specs.Bounds.{SmallPools}
-use Rattle.amounts.specs.Pools.{poolsOf, halvesOf}
+use Rattle.amounts.specs.Pools.{poolsOf}
 use Rattle.amounts.specs.declared.pools.Pools.{Pools}
-use Rattle.amounts.specs.declared.pools.Halves.{Halves}
 use Rattle.amounts.proofs.Sizes.{pools-small, residual-small}
 use Rattle.parties.specs.Parties.{accountsIn, partSum, Sorted, Shareable}
 use Rattle.parties.specs.declared.shares.Basis.{Basis}
 use Rattle.parties.specs.declared.shares.Basis.the-variants as basis
 use Rattle.parties.specs.declared.shares.Part.{Part}
-use Rattle.balance.specs.Pools.{recovers, benefiting}
-use Rattle.balance.specs.Balance.{accountsOf}
-use Rattle.balance.specs.Shapes.{poolBy, recoveryOf, constraintBasis, partOf, consumedPart, sentPart, regionSum, contingencyShape, regulationShape, contractShape}
+use Rattle.balance.specs.Pools.{recovers}
+use Rattle.balance.specs.Shapes.{poolBy, recoveryOf, constraintBasis, partOf, contingencyShape, regulationShape, contractShape}
 use Rattle.balance.specs.Units.{SumsAre}
 use Rattle.balance.specs.Rests.{OfConstraint, OfContract, Counted, PartIs, PaidIs}
 use Rattle.balance.specs.declared.kinds.Kind.{Kind}
@@ -44,7 +35,7 @@ use Rattle.balance.specs.declared.kinds.Kind.the-variants.{Contingency, 
 use Rattle.balance.specs.declared.kinds.Recovery.{Recovery}
 use Rattle.balance.specs.declared.pools.Paid.{Paid}
 use Rattle.balance.specs.declared.units.UnitSums.{UnitSums}
-use Rattle.balance.proofs.Shareables.{credit-low, charge-low, sorted, constraint-shareable, consumed-shareable, sent-shareable}
+use Rattle.balance.proofs.Shareables.{credit-low, charge-low, sorted, constraint-shareable}
 
 -- ---- sections where they stand; e and u are where the energy rows and the unit rows start
 
@@ -93,64 +84,6 @@ module _ {B : Book} (p : Promise B) (r : Constraint) (o : OfConstraint B r) wher
     pub over-is : {x : ℕ} → (x ≡ partSum (record { amount = amount; whole = whole; mask = r .mask; basis = basis }) (B .energy) (B .header .energies)) × (x ≤ 51200000000000) → PartIs B r amount x
     over-is s = record { sum = rw part-is at (s .0); small = s .1 }
 
--- ---- a contract in one region
-
-module _ {B : Book} (p : Promise B) (k : Contract) (o : OfContract B k) (g : ℕ) (m : g < 5) where
-  pub no-benefit : factorOf (k .factors) g ≡ 0 → (0 ≡ regionSum B k g) × (0 ≤ 102400000000000)
-  unfolding regionSum
-  no-benefit z = (rw (eq-eqb (factorOf (k .factors) g) 0 z), omega arith)
-
-  pub halves-fit : (k .payment ≤ 50000000000) × (factorOf (k .factors) g ≤ 1000000)
-  halves-fit = rw (o .same) ((p .fields .contracts (o .place) (o .within) .payment, p .fields .contracts (o .place) (o .within) .factor g m))
-
-  module _ (d : factorOf (k .factors) g ≡ 0 → ⊥) (x : Halves) (hx : x ≡ halvesOf (k .payment) (factorOf (k .factors) g)) (e : Entry) (he : e ≡ B .entry g) (mask : ℕ) (hm : mask ≡ 2 ^ g) where
-    abbrev consumedHere : Part
-    consumedHere = record { amount = x .consumed; whole = e .ace; mask = mask; basis = basis.Ace }
-
-    abbrev sentHere : Part
-    sentHere = record { amount = x .sent; whole = e .asoe; mask = mask; basis = basis.Asoe }
-
-    consumed-is : consumedHere ≡ consumedPart (B .entry) k g
-    unfolding consumedPart
-    consumed-is = rw (hx, he, hm)
-
-    sent-is : sentHere ≡ sentPart (B .entry) k g
-    unfolding sentPart
-    sent-is = rw (hx, he, hm)
-
-    benefits : factorOf (B .contract (o .place) .factors) g ≡ 0 → ⊥
-    benefits z = d (ap (λ (k : Contract). factorOf (k .factors) g) (o .same) ∙ z)
-
-    pub consumed-fits : Shareable consumedHere (B .energy) (B .header .energies)
-    consumed-fits = rw (consumed-is, o .same) (consumed-shareable p (o .place) g (o .within) m benefits)
-
-    pub sent-fits : Shareable sentHere (B .energy) (B .header .energies)
-    sent-fits = rw (sent-is, o .same) (sent-shareable p (o .place) g (o .within) m benefits)
-
-    pub region-is : {y z : ℕ} → (y ≡ partSum consumedHere (B .energy) (B .header .energies)) × (y ≤ 51200000000000) → (z ≡ partSum sentHere (B .energy) (B .header .energies)) × (z ≤ 51200000000000) → (y + z ≡ regionSum B k g) × (y + z ≤ 102400000000000)
-    unfolding regionSum
-    region-is s t = (rw (ne-eqb (factorOf (k .factors) g) 0 d, ← consumed-is, ← sent-is, s .0, t .0), omega (arith, s .1, t .1))
-
--- ---- all regions of a contract
-
-module _ (B : Book) (k : Contract) where
-  pub paid-none : PaidIs B k 0 (record { regions = 0; charge = 0 })
-  unfolding total
-  paid-none = record { regions = refl; charge = refl; few = omega arith; small = omega arith }
-
-  pub paid-more : (g : ℕ) {x : Paid} {c y : ℕ} → PaidIs B k g x → (c ≡ cond (eqb (factorOf (k .factors) g) 0) 0 1) × (c ≤ 1) → (y ≡ regionSum B k g) × (y ≤ 102400000000000) → PaidIs B k (g + 1) (record { regions = x .regions + c; charge = x .charge + y })
-  unfolding total
-  paid-more g s q r =
-      record {
-        regions = rw (add-one, s .regions, q .0);
-        charge = rw (add-one, s .charge, r .0);
-        few = omega (arith, s .few, q .1);
-        small = omega (arith, s .small, r .1);
-      }
-
-  pub paid-all : (g : ℕ) {x : Paid} → PaidIs B k g x → g ≤ 5 → 5 ≤ g → PaidIs B k 5 x
-  paid-all g {x} s l m = subst (λ (z : ℕ). PaidIs B k z x) (omega arith) s
-
 -- ---- what a regulation pool rests on is small
 
 pool-low : (q : Pools) (kind : Kind) → SmallPools q → poolBy kind q ≤ 50000000000
@@ -197,6 +130,6 @@ module _ (B : Book) (count : ℕ) (n : Counted B count) where
   pub contract-payment : Promise B → (k : Contract) → OfContract B k → k .payment ≤ 50000000000
   contract-payment p k o = rw (o .same) (p .fields .contracts (o .place) (o .within) .payment)
 
-  pub contract-is : (k : Contract) {x : Paid} → PaidIs B k 5 x → {a s : ℤ} → a ≡ pos (k .payment) → s ≡ less 0 (x .charge) → record { amount = a; lines = x .regions * (2 * count); sum = s } ≡ contractShape B k
-  unfolding contractShape benefiting
+  pub contract-is : (k : Contract) {x : Paid} → PaidIs B k x → {a s : ℤ} → a ≡ pos (k .payment) → s ≡ less 0 (x .charge) → record { amount = a; lines = x .regions * (2 * count); sum = s } ≡ contractShape B k
+  unfolding contractShape
   contract-is k p a s = rw (a, s, n .all, p .regions, p .charge)

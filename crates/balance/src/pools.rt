@@ -1,15 +1,18 @@
 // The balance of each kind of pool, of a book that the checks have accepted.
 ghost use mathlib.Core.Path.{_≡_};
-ghost use Prim.Native.Nat.{_≤_, _<_};
+ghost use Prim.Native.Nat.{_+_, _*_, _≤_, _<_};
 ghost use mathlib.Core.Bool.{cond};
 ghost use lib.Dec.{eqb};
+ghost use lib.ListN.{length};
+ghost use Rattle.sections.specs.Total.{total};
+ghost use Rattle.records.specs.Rows.{energyRow};
 ghost use Rattle.totals.specs.Divisors.{divisorOf};
 ghost use Rattle.book.specs.Book.{bookIn};
 ghost use Rattle.book.specs.Facts.{Laid};
 ghost use Rattle.book.specs.Accepted.{Promise};
 ghost use Rattle.parties.specs.Parties.{partSum, Shareable};
 ghost use Rattle.balance.specs.Shapes.{constraintBasis, regionSum, contingencyShape, regulationShape, contractShape};
-ghost use Rattle.balance.specs.Rests.{OfConstraint, OfContract, PartIs, Counted, PaidIs};
+ghost use Rattle.balance.specs.Rests.{OfConstraint, OfContract, PartIs, Counted, PaidIs, ListsAre, Payable, AllPayable, rowPays};
 use crate::Balance;
 use crate::kinds;
 use crate::kinds::Kind;
@@ -26,6 +29,7 @@ use records::kinds::Service;
 use records::rows;
 use records::rows::Constraint;
 use records::rows::Contract;
+use records::rows::EnergyRow;
 use totals::divisors;
 
 // How many accounts the book has.
@@ -127,35 +131,110 @@ pub(crate) fn regulation(book: &[u8], h: Header, r: Constraint, kind: Kind, coun
     }
 }
 
-// What all accounts pay in region g, where the contract benefits it.
-fn region_sum(book: &[u8], h: Header, k: Contract, g: usize) -> u64
+// The two halves of a contract's payment in region g, and the region's totals, each in its list.
+fn fill(
+    book: &[u8],
+    h: Header,
+    k: Contract,
+    g: usize,
+    consumed: &mut [u64; 5],
+    sent: &mut [u64; 5],
+    ace: &mut [u64; 5],
+    asoe: &mut [u64; 5],
+)
     requires { ⌜ Laid (now book) h ⌝ }
     requires { ⌜ Promise (bookIn (now book) h) ⌝ }
     requires { ⌜ OfContract (bookIn (now book) h) k ⌝ }
-    requires { ⌜ g < 5 ⌝ }
-    ensures { λ x. ⌜ (x ≡ regionSum (bookIn (now (book .entry)) h) k g) × (x ≤ 102400000000000) ⌝ }
+    requires { ⌜ (g < 5) × ListsAre (bookIn (now book) h) k g (now consumed) (now sent) (now ace) (now asoe) ⌝ }
+    ensures { λ _. ⌜ ListsAre (bookIn (now (book .entry)) h) k (g + 1) (now (consumed .exit)) (now (sent .exit)) (now (ace .exit)) (now (asoe .exit)) ⌝ }
 {
     let factors = k.factors;
-    let factor = factors[g];
-    if factor == 0 {
+    let x = pools::halves_of(k.payment, factors[g]);
+    let e = rows::entry_row(&book[24..], g);
+    consumed[g] = x.consumed;
+    sent[g] = x.sent;
+    ace[g] = e.ace as u64;
+    asoe[g] = e.asoe as u64;
+}
+
+// What the account of an energy row pays for its region, where the contract benefits it. An account has one row for a region, so that its two
+// lines there are this row's two shares.
+fn row_pays(
+    factors: &[u32; 5],
+    consumed: &[u64; 5],
+    sent: &[u64; 5],
+    ace: &[u64; 5],
+    asoe: &[u64; 5],
+    r: EnergyRow,
+) -> u64
+    requires { ⌜ Payable (now factors) (now consumed) (now sent) (now ace) (now asoe) r ⌝ }
+    ensures { λ x. ⌜ x ≡ rowPays (now (factors .entry)) (now (consumed .entry)) (now (sent .entry)) (now (ace .entry)) (now (asoe .entry)) r ⌝ }
+{
+    let g = r.region as usize;
+    if factors[g] == 0 {
         return 0;
     }
-    let e = rows::entry_row(&book[24..], g);
-    let x = pools::halves_of(k.payment, factor);
-    let mask = Region::of(g as u8).bit();
-    let consumed = Part {
-        amount: x.consumed,
-        whole: e.ace as u64,
-        mask,
-        basis: Basis::Ace,
-    };
-    let sent = Part {
-        amount: x.sent,
-        whole: e.asoe as u64,
-        mask,
-        basis: Basis::Asoe,
-    };
-    shared(book, h, consumed) + shared(book, h, sent)
+    shares::share(consumed[g], r.ace as u64, ace[g])
+        + shares::share(sent[g], r.asoe as u64, asoe[g])
+}
+
+// What all accounts pay, in one pass over the energy rows.
+fn pays(
+    energy: &[u8],
+    n: usize,
+    factors: &[u32; 5],
+    consumed: &[u64; 5],
+    sent: &[u64; 5],
+    ace: &[u64; 5],
+    asoe: &[u64; 5],
+) -> u64
+    requires { ⌜ n * 24 ≤ length (now energy) ⌝ }
+    requires { ⌜ AllPayable (now factors) (now consumed) (now sent) (now ace) (now asoe) (energyRow (now energy)) n ⌝ }
+    ensures { λ x. ⌜ (x ≡ total (λ i. rowPays (now (factors .entry)) (now (consumed .entry)) (now (sent .entry)) (now (ace .entry)) (now (asoe .entry)) (energyRow (now (energy .entry)) i)) n) × (x ≤ 102400000000000) ⌝ }
+{
+    let mut sum: u64 = 0;
+    let mut i = 0;
+    while i < n {
+        sum += row_pays(
+            factors,
+            consumed,
+            sent,
+            ace,
+            asoe,
+            rows::energy_row(energy, i),
+        );
+        i += 1;
+    }
+    sum
+}
+
+// What all accounts pay in the regions that a contract benefits.
+fn charges(book: &[u8], h: Header, k: Contract) -> u64
+    requires { ⌜ Laid (now book) h ⌝ }
+    requires { ⌜ Promise (bookIn (now book) h) ⌝ }
+    requires { ⌜ OfContract (bookIn (now book) h) k ⌝ }
+    ensures { λ x. ⌜ (x ≡ total (regionSum (bookIn (now (book .entry)) h) k) 5) × (x ≤ 102400000000000) ⌝ }
+{
+    let mut consumed = [0u64; 5];
+    let mut sent = [0u64; 5];
+    let mut ace = [0u64; 5];
+    let mut asoe = [0u64; 5];
+    let mut g = 0;
+    while g < Region::COUNT {
+        fill(book, h, k, g, &mut consumed, &mut sent, &mut ace, &mut asoe);
+        g += 1;
+    }
+    let factors = k.factors;
+    let energies = h.energies_at();
+    pays(
+        &book[energies..],
+        h.energies as usize,
+        &factors,
+        &consumed,
+        &sent,
+        &ace,
+        &asoe,
+    )
 }
 
 // How many regions a contract benefits, and what all accounts pay in them.
@@ -178,22 +257,13 @@ fn payments(book: &[u8], h: Header, k: Contract) -> Paid
     requires { ⌜ Laid (now book) h ⌝ }
     requires { ⌜ Promise (bookIn (now book) h) ⌝ }
     requires { ⌜ OfContract (bookIn (now book) h) k ⌝ }
-    ensures { λ x. ⌜ PaidIs (bookIn (now (book .entry)) h) k 5 x ⌝ }
+    ensures { λ x. ⌜ PaidIs (bookIn (now (book .entry)) h) k x ⌝ }
 {
-    let factors = k.factors;
-    let mut sums = Paid {
-        regions: 0,
-        charge: 0,
-    };
-    let mut g = 0;
-    while g < Region::COUNT {
-        sums = Paid {
-            regions: sums.regions + benefits(factors[g]),
-            charge: sums.charge + region_sum(book, h, k, g),
-        };
-        g += 1;
+    let f = k.factors;
+    Paid {
+        regions: benefits(f[0]) + benefits(f[1]) + benefits(f[2]) + benefits(f[3]) + benefits(f[4]),
+        charge: charges(book, h, k),
     }
-    sums
 }
 
 // A contract's pool: two lines of each account in each benefiting region.

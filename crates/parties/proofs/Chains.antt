@@ -23,12 +23,12 @@ module _ (name : ℕ → ℕ) where
   last-none h {p} e =
       record { within = omega arith; own = λ k q. absurd (omega arith); rest = λ k l m q. absurd (omega arith) }
 
-  pub chained-none : Chained name 0 (replicate 512 0) (replicate 600 0)
+  pub chained-none : Chained name 0 (replicate 1024 0) (replicate 600 0)
   chained-none =
       record {
-        marks = length-replicate {A = ℕ} 512 0;
+        marks = length-replicate {A = ℕ} 1024 0;
         places = length-replicate {A = ℕ} 600 0;
-        ends = λ h l. last-none h (getD-replicate {A = ℕ} 512 h 0 0 l);
+        ends = λ h l. last-none h (getD-replicate {A = ℕ} 1024 h 0 0 l);
         links = λ j l. absurd (omega arith);
       }
 
@@ -48,7 +48,7 @@ module _ (name : ℕ → ℕ) where
       })
 
   -- a turn: record u is put at the end of its chain
-  pub chained-more : (u : ℕ) {h : ℕ} {last before last′ before′ : List ℕ} → Chained name u last before → h ≡ markOf (name u) → h < 512 → u < 600 → last′ ≡ set last h (u + 1) → before′ ≡ set before u (getD last h 0) → Chained name (u + 1) last′ before′
+  pub chained-more : (u : ℕ) {h : ℕ} {last before last′ before′ : List ℕ} → Chained name u last before → h ≡ markOf (name u) → h < 1024 → u < 600 → last′ ≡ set last h (u + 1) → before′ ≡ set before u (getD last h 0) → Chained name (u + 1) last′ before′
   chained-more u {h} {last} {before} c e hl ul p q =
       rw (p, q)
       (record {
@@ -58,7 +58,7 @@ module _ (name : ℕ → ℕ) where
         links = λ j l. linked j l (eqb j u) refl;
       })
     where
-      end : (g : ℕ) → g < 512 → (t : Bool) → eqb g h ≡ t → Last name (u + 1) g (getD (set last h (u + 1)) g 0)
+      end : (g : ℕ) → g < 1024 → (t : Bool) → eqb g h ≡ t → Last name (u + 1) g (getD (set last h (u + 1)) g 0)
       end g l true t =
           let same : g ≡ h = eqb-true g h t in
           last-own u g (rw same (getD-set-same last h (u + 1) 0 (rw (c .marks) hl))) (sym e ∙ sym same)
@@ -81,7 +81,7 @@ module _ (name : ℕ → ℕ) where
     pub own : (k : ℕ) → p ≡ k + 1 → markOf (name k) ≡ markOf a
     pub past : (k : ℕ) → p ≤ k → k < u → name k ≡ a → ⊥
 
-  pub walk-start : (u a : ℕ) {h p : ℕ} {last before : List ℕ} → Chained name u last before → h ≡ markOf a → h < 512 → p ≡ getD last h 0 → Walk u a p
+  pub walk-start : (u a : ℕ) {h p : ℕ} {last before : List ℕ} → Chained name u last before → h ≡ markOf a → h < 1024 → p ≡ getD last h 0 → Walk u a p
   walk-start u a {h} {p} {last} c e l q =
       let s : Last name u (markOf a) p = rw (q, ← e) (c .ends h l) in
       record { within = s .within; own = s .own; past = λ k m b z. s .rest k m b (ap markOf z) }

@@ -74,6 +74,11 @@ let-pass B a =
 pub share-nothing : (amount whole : ℕ) {own : ℕ} → own ≡ 0 → 0 ≡ roundN (amount * own) whole
 share-nothing amount whole e = rw (e, mul-zero) (sym (round-zero whole))
 
+-- a share of what is there or not is there or not
+pub share-choice : (amount whole : ℕ) (t : Bool) (own : ℕ) → roundN (amount * cond t own 0) whole ≡ cond t (roundN (amount * own) whole) 0
+share-choice amount whole true own = refl
+share-choice amount whole false own = sym (share-nothing amount whole refl)
+
 module _ (p : Part) (energy : ℕ → EnergyRow) (n : ℕ) where
   -- who is in no energy row has no energy
   pub own-none : (a : ℕ) → seen (energyAccount energy) n a ≡ false → ownIn p energy n a ≡ 0

@@ -5,8 +5,9 @@ use mathlib.Core.List.{[], _∷_}
 use mathlib.Core.Bool.{Bool, true, false, cond}
 use mathlib.Core.Logic.{⊎-elim}
 use native.Mathlib.Omega.{arith}
-use native.Mathlib.Nat.{eq-or-lt-of-le, not-suc-le-zero, le-of-suc-le-suc, le-refl, le-trans, le-of-eq, mul-le-mul, add-comm}
+use native.Mathlib.Nat.{eq-or-lt-of-le, not-suc-le-zero, le-of-suc-le-suc, le-refl, le-trans, le-of-eq, mul-le-mul, add-comm, one-mul, zero-mul}
 use borrow.Author.Tests.{eq-eqb}
+use mir.Val.{boolByte}
 use Rattle.ground.specs.Round.{roundN}
 use Rattle.ground.proofs.Rounding.{round-share}
 use Rattle.sections.specs.Total.{total, keyed}
@@ -42,15 +43,14 @@ energy-small p r h = by (bitSet (p .mask) (r .region)) (p .basis)
     by true Residual = omega arith
     by false b = omega arith
 
--- a row's region, by its number k, is in the part's mask or it is not: t is what the test says
-module _ (p : Part) (r : EnergyRow) {k : ℕ} {t : Bool} where
-  pub energy-inside : {x : ℕ} → k ≡ r .region → t ≡ bitSet (p .mask) k → t ≡ true → x ≡ byBasis (p .basis) r → x ≡ energyIn p r
-  unfolding energyIn
-  energy-inside q e h d = rw (rw q at (sym e ∙ h)) d
-
-  pub energy-outside : k ≡ r .region → t ≡ bitSet (p .mask) k → t ≡ false → 0 ≡ energyIn p r
-  unfolding energyIn
-  energy-outside q e h = rw (rw q at (sym e ∙ h))
+-- by product: t says whether the row's region, by its number k, is in the part's mask
+pub energy-product : (p : Part) (r : EnergyRow) {k x : ℕ} {t : Bool} → k ≡ r .region → t ≡ bitSet (p .mask) k → x ≡ byBasis (p .basis) r → boolByte t * x ≡ energyIn p r
+unfolding energyIn
+energy-product p r q e d = rw (e, q, d) (by (bitSet (p .mask) (r .region)))
+  where
+    by : (t : Bool) → boolByte t * byBasis (p .basis) r ≡ cond t (byBasis (p .basis) r) 0
+    by true = one-mul (byBasis (p .basis) r)
+    by false = zero-mul (byBasis (p .basis) r)
 
 module _ (p : Part) (energy : ℕ → EnergyRow) (n : ℕ) where
   abbrev counted : ℕ → ℕ

@@ -5,3 +5,4 @@ pub mod Chains
 pub mod Closing
 pub mod Counting
 pub mod Groups
+pub mod Rows

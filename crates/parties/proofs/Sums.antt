@@ -1,6 +1,6 @@
 -- Sums over lists, against sums of their parts. Assumes nothing.
 use Prim.Native.Nat.{ℕ, _+_, _*_, _≤_}
-use mathlib.Core.Path.{_≡_, refl}
+use mathlib.Core.Path.{_≡_, refl, ap₂}
 use mathlib.Core.List.{List, [], _∷_}
 use native.Mathlib.Omega.{arith}
 use native.Mathlib.Nat.{suc-mul}
@@ -8,6 +8,12 @@ use lib.ListN.{length}
 use Rattle.accounts.specs.Rows.{sumOf}
 
 module _ {A : Type 0} where
+  -- numbers that are equal
+  pub sum-same : (f g : A → ℕ) (l : List A) → ((a : A) → f a ≡ g a) → sumOf f l ≡ sumOf g l
+  unfolding sumOf
+  sum-same f g [] h = refl
+  sum-same f g (a ∷ l) h = ap₂ _+_ (h a) (sum-same f g l h)
+
   -- two numbers for each element, summed together or each alone
   pub sum-plus : (f g : A → ℕ) (l : List A) → sumOf (λ a. f a + g a) l ≡ sumOf f l + sumOf g l
   unfolding sumOf

@@ -6,7 +6,7 @@ use lib.ListN.{length, getD}
 
 -- the mark of a name: the product with an odd number spreads names that lie close
 unfoldable pub markOf : ℕ → ℕ
-markOf a = (a * 2654435761 / 8388608) % 512
+markOf a = (a * 2654435761 / 4194304) % 1024
 
 -- p is the place behind the last of the records 0 .. u - 1 whose mark is h, or 0 where there is none
 pub record Last (name : ℕ → ℕ) (u h p : ℕ) : Type 0 where
@@ -16,7 +16,7 @@ pub record Last (name : ℕ → ℕ) (u h p : ℕ) : Type 0 where
 
 -- the records 0 .. u - 1 in chains: for each mark the last of its records, and for each record the one of its mark before it
 pub record Chained (name : ℕ → ℕ) (u : ℕ) (last before : List ℕ) : Type 0 where
-  pub marks : length last ≡ 512
+  pub marks : length last ≡ 1024
   pub places : length before ≡ 600
-  pub ends : (h : ℕ) → h < 512 → Last name u h (getD last h 0)
+  pub ends : (h : ℕ) → h < 1024 → Last name u h (getD last h 0)
   pub links : (j : ℕ) → j < u → Last name j (markOf (name j)) (getD before j 0)

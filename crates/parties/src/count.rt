@@ -27,14 +27,14 @@ fn unit_account(units: &[u8], u: usize) -> u32
 
 // The chain in which rows of an account stand.
 fn mark(a: u32) -> usize
-    ensures { λ h. ⌜ (h ≡ markOf a) × (h < 512) ⌝ }
+    ensures { λ h. ⌜ (h ≡ markOf a) × (h < 1024) ⌝ }
 {
-    ((a as u64) * 2654435761 / 8388608 % 512) as usize
+    ((a as u64) * 2654435761 / 4194304 % 1024) as usize
 }
 
 // Unit row u put at the end of chain h.
-fn link(last: &mut [u16; 512], before: &mut [u16; 600], h: usize, u: usize)
-    requires { ⌜ (h < 512) × (u < 600) ⌝ }
+fn link(last: &mut [u16; 1024], before: &mut [u16; 600], h: usize, u: usize)
+    requires { ⌜ (h < 1024) × (u < 600) ⌝ }
     ensures { λ _. ⌜ now (last .exit) ≡ set (now (last .entry)) h (u + 1) ⌝ }
     ensures { λ _. ⌜ now (before .exit) ≡ set (now (before .entry)) u (getD (now (last .entry)) h 0) ⌝ }
 {
@@ -43,7 +43,7 @@ fn link(last: &mut [u16; 512], before: &mut [u16; 600], h: usize, u: usize)
 }
 
 // Whether one of the first u unit rows names the account: those of its chain are looked at, from the last on.
-fn in_units(units: &[u8], u: usize, last: &[u16; 512], before: &[u16; 600], a: u32) -> bool
+fn in_units(units: &[u8], u: usize, last: &[u16; 1024], before: &[u16; 600], a: u32) -> bool
     requires { ⌜ (u ≤ 600) × (u * 20 ≤ length (now units)) ⌝ }
     requires { ⌜ Chained (unitAccount (unitRow (now units))) u (now last) (now before) ⌝ }
     ensures { λ b. ⌜ b ≡ seen (unitAccount (unitRow (now (units .entry)))) u a ⌝ }
@@ -59,7 +59,7 @@ fn in_units(units: &[u8], u: usize, last: &[u16; 512], before: &[u16; 600], a: u
 }
 
 // 1 where no unit row before u names the account of unit row u, else 0. The row is then linked.
-fn new_unit(units: &[u8], u: usize, last: &mut [u16; 512], before: &mut [u16; 600]) -> usize
+fn new_unit(units: &[u8], u: usize, last: &mut [u16; 1024], before: &mut [u16; 600]) -> usize
     requires { ⌜ (u < 600) × ((u + 1) * 20 ≤ length (now units)) ⌝ }
     requires { ⌜ Chained (unitAccount (unitRow (now units))) u (now last) (now before) ⌝ }
     ensures { λ x. ⌜ x ≡ newly (seen (unitAccount (unitRow (now (units .entry)))) u (unitRow (now (units .entry)) u .account)) ⌝ }
@@ -75,7 +75,7 @@ fn new_unit(units: &[u8], u: usize, last: &mut [u16; 512], before: &mut [u16; 60
 }
 
 // How many accounts the unit rows name. All of them are linked.
-fn unit_accounts(units: &[u8], m: usize, last: &mut [u16; 512], before: &mut [u16; 600]) -> usize
+fn unit_accounts(units: &[u8], m: usize, last: &mut [u16; 1024], before: &mut [u16; 600]) -> usize
     requires { ⌜ (m ≤ 600) × (m * 20 ≤ length (now units)) ⌝ }
     requires { ⌜ Chained (unitAccount (unitRow (now units))) 0 (now last) (now before) ⌝ }
     ensures { λ c. ⌜ c ≡ length (named (unitAccount (unitRow (now (units .entry)))) m []) ⌝ }
@@ -109,7 +109,7 @@ fn new_energy(
     i: usize,
     units: &[u8],
     m: usize,
-    last: &[u16; 512],
+    last: &[u16; 1024],
     before: &[u16; 600],
 ) -> usize
     requires { ⌜ ((n * 24 ≤ length (now energy)) × (i < n)) × ((m ≤ 600) × (m * 20 ≤ length (now units))) ⌝ }
@@ -132,7 +132,7 @@ pub fn all_accounts(energy: &[u8], n: usize, units: &[u8], m: usize) -> usize
     requires { ⌜ Sorted (energyRow (now energy)) n ⌝ }
     ensures { λ c. ⌜ (c ≡ length (accountsIn (energyRow (now (energy .entry))) n (unitRow (now (units .entry))) m)) × (c ≤ 1624) ⌝ }
 {
-    let mut last = [0u16; 512];
+    let mut last = [0u16; 1024];
     let mut before = [0u16; 600];
     let mut count = unit_accounts(units, m, &mut last, &mut before);
     let mut i = 0;

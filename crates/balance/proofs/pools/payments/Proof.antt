@@ -1,66 +1,74 @@
--- `balance::pools::payments` meets its contract. The invariant, `PaidIs`: what the first g regions pay. The measure is what is left. Assumes nothing.
-use Prim.Native.Nat.{_≤_, _-_}
-use Rattle.balance.specs.Rests.{PaidIs}
-use native.Mathlib.Omega.{arith}
+-- `balance::pools::payments` meets its contract. Each region that benefits is counted, and what all accounts pay is taken as it is. Assumes nothing.
 use borrow.Author.Needs.{needs}
-use Rattle.book.specs.Book.{bookIn}
-use Rattle.balance.proofs.Resting.{paid-none, paid-more, paid-all}
+use Rattle.balance.proofs.Payments.{paid-is}
 use Rattle.balance.proofs.pools.payments.Statement.{statement}
 use Rattle.balance.proofs.pools.payments.Tie as tie
 
-abbrev Inv-loop : tie.InvT-loop
-Inv-loop book h k factors sums₀ g₀ sums g = (g ≤ 5) × PaidIs (bookIn book h) k g sums
-
-abbrev μ-loop : tie.MeasureT-loop
-μ-loop book h k factors sums₀ g₀ sums g = 5 - g
-
-loop-holds : tie.Need-loop-holds Inv-loop μ-loop
-loop-holds c = (omega arith, paid-none _ _)
-
-mul-benefits : tie.Need-mul-benefits Inv-loop μ-loop
-mul-benefits c = omega arith
-
-array-read-benefits : tie.Need-array-read-benefits Inv-loop μ-loop
+array-read-benefits : tie.Need-array-read-benefits
 array-read-benefits c = search needs
 
-benefits-requires : tie.Need-benefits-requires Inv-loop μ-loop
+benefits-requires : tie.Need-benefits-requires
 benefits-requires c κs = search needs
 
-add-t13 : tie.Need-add-t13 Inv-loop μ-loop
-add-t13 c = omega (arith, c .before .benefits .ensures .1, c .before .before .before .loop .inv .1 .few)
+array-read-benefits-2 : tie.Need-array-read-benefits-2
+array-read-benefits-2 c = search needs
 
-region-sum-requires : tie.Need-region-sum-requires Inv-loop μ-loop
-region-sum-requires c κs = (c .before .before .before .before .before .before .pre .0, (c .before .before .before .before .before .before .pre .1 .0, (c .before .before .before .before .before .before .pre .1 .1, c .before .before .loop-test .taken)))
+benefits-requires-2 : tie.Need-benefits-requires-2
+benefits-requires-2 c κs = search needs
 
-add-t15 : tie.Need-add-t15 Inv-loop μ-loop
-add-t15 c = omega (arith, c .before .region-sum .ensures .1, c .before .before .before .before .before .loop .inv .1 .small)
+add-t13 : tie.Need-add-t13
+add-t13 c = search needs
 
-add-g : tie.Need-add-g Inv-loop μ-loop
-add-g c = omega arith
+array-read-benefits-3 : tie.Need-array-read-benefits-3
+array-read-benefits-3 c = search needs
 
-loop-less : tie.Need-loop-less Inv-loop μ-loop
-loop-less c = omega arith
+benefits-requires-3 : tie.Need-benefits-requires-3
+benefits-requires-3 c κs = search needs
 
-loop-again : tie.Need-loop-again Inv-loop μ-loop
-loop-again c = (omega arith, paid-more _ _ _ (c .before .before .before .before .before .loop .inv .1) (c .before .before .before .benefits .ensures) (c .before .region-sum .ensures))
+add-t18 : tie.Need-add-t18
+add-t18 c = search needs
 
-returns : tie.Need-returns Inv-loop μ-loop
-returns c = paid-all _ _ _ (c .before .loop .inv .1) (c .before .loop .inv .0) (omega arith)
+array-read-benefits-4 : tie.Need-array-read-benefits-4
+array-read-benefits-4 c = search needs
+
+benefits-requires-4 : tie.Need-benefits-requires-4
+benefits-requires-4 c κs = search needs
+
+add-t23 : tie.Need-add-t23
+add-t23 c = search needs
+
+array-read-benefits-5 : tie.Need-array-read-benefits-5
+array-read-benefits-5 c = search needs
+
+benefits-requires-5 : tie.Need-benefits-requires-5
+benefits-requires-5 c κs = search needs
+
+add-t28 : tie.Need-add-t28
+add-t28 c = search needs
+
+charges-requires : tie.Need-charges-requires
+charges-requires c κs = search needs
+
+returns : tie.Need-returns
+returns c = paid-is _ _ (c .before .before .before .before .before .benefits .ensures) (c .before .before .before .before .benefits2 .ensures) (c .before .before .before .benefits3 .ensures) (c .before .before .benefits4 .ensures) (c .before .benefits5 .ensures) (c .charges .ensures)
 
 pub payments-spec : {M : Type 1} → statement M
 payments-spec =
     tie.close
     (tie.spec
-    Inv-loop
-    μ-loop
-    loop-holds
-    mul-benefits
     array-read-benefits
     benefits-requires
+    array-read-benefits-2
+    benefits-requires-2
     add-t13
-    region-sum-requires
-    add-t15
-    add-g
-    loop-less
-    loop-again
+    array-read-benefits-3
+    benefits-requires-3
+    add-t18
+    array-read-benefits-4
+    benefits-requires-4
+    add-t23
+    array-read-benefits-5
+    benefits-requires-5
+    add-t28
+    charges-requires
     returns)
