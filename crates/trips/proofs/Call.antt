@@ -26,7 +26,6 @@ use Rattle.accounts.specs.Account.{publicOf, rowsOfAccount, ownEnergy, unknown}
 use Rattle.accounts.specs.Held.{HeldIs}
 use Rattle.accounts.specs.declared.Held.{Held}
 use Rattle.accounts.proofs.Lists.{some-rows}
-use Rattle.accounts.proofs.Own.{held-unknown}
 use Rattle.statement.specs.Lent.{Outcome, refuses, gives}
 use Rattle.lines.specs.Limit.{anyOver}
 use Rattle.settlement.specs.Settle.{linesOf, statementOf, settled, ifAccepted, outcome}

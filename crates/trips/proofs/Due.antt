@@ -5,7 +5,7 @@ use mathlib.Core.Bool.{false}
 use Rattle.book.specs.Book.{Book}
 use Rattle.statement.specs.declared.Line.{Line}
 use Rattle.reading.specs.Writable.{WritableLine}
-use Rattle.lines.specs.Emitted.{passesLimit}
+use Rattle.lines.specs.Limit.{passesLimit}
 
 -- a line that is written and read back where its amount keeps the limit of 12
 pub record Due (l : Line) : Type 0 where

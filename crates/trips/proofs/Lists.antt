@@ -6,29 +6,22 @@ use mathlib.Core.Bool.{Bool, true, false, _||_}
 use mathlib.Core.List.{List, [], _∷_}
 use lib.Dec.{eqb}
 use Rattle.ground.specs.Each.{Each}
-use Rattle.ground.proofs.Each.{each-append, each-choice}
+use Rattle.ground.proofs.Each.{each-choice}
 use Rattle.records.specs.Rules.{factorOf}
-use Rattle.records.specs.Facts.{ConstraintRule, ContractRule, UnitRule}
-use Rattle.records.specs.declared.rows.Entry.{Entry}
+use Rattle.records.specs.Facts.{ConstraintRule}
 use Rattle.records.specs.declared.rows.Constraint.{Constraint}
 use Rattle.records.specs.declared.rows.UnitRow.{UnitRow}
-use Rattle.records.specs.declared.rows.Contract.{Contract}
-use Rattle.factors.specs.Naming.{keyOf}
-use Rattle.totals.specs.Totals.{entryOf}
 use Rattle.totals.specs.declared.entries.Totals.{Totals}
 use Rattle.book.specs.Book.{Book}
 use Rattle.book.specs.Accepted.{Promise}
-use Rattle.amounts.specs.Pools.{poolsOf, residualOf, halvesOf}
+use Rattle.amounts.specs.Pools.{halvesOf}
 use Rattle.amounts.specs.declared.pools.Pools.{Pools}
 use Rattle.amounts.specs.declared.pools.Residual.{Residual}
-use Rattle.accounts.specs.Rows.{joined}
-use Rattle.accounts.proofs.Joined.{each-joined}
 use Rattle.statement.specs.declared.Line.{Line}
 use Rattle.reading.specs.Writable.{WritableLine}
 use Rattle.lines.specs.Lines.{unitLines, restLines}
 use Rattle.lines.specs.Limit.{passesLimit, anyOver}
-use Rattle.settlement.specs.Settle.{regionLines}
-use Rattle.settlement.specs.Walks.{ownLines, unitLinesAt, conLines, conLinesAt, contractLinesAt, bookLines}
+use Rattle.settlement.specs.Walks.{bookLines}
 use Rattle.settlement.proofs.EachLine.{EachKind, each-line}
 use Rattle.trips.proofs.Due.{Due, Narrow}
 use Rattle.trips.proofs.Lines.{contingency-due, fpp-rest-due, used-rest-due, unused-rest-due, fpp-due, used-due, unused-due, ace-due, asoe-due}
@@ -60,8 +53,8 @@ module _ (B : Book) (p : Promise B) (n : Narrow B) (own : Totals) where
         units = λ j l u m. unit-due (B .constraint j) (p .fields .constraints j l) (n .constraints j) _ (B .unit u) (p .fields .units u m .unit) (n .units u);
         rest = λ j l. rest-due (B .constraint j) (p .fields .constraints j l) (n .constraints j) _ _ _;
         region = λ k l g m d. (
-          ace-due (B .contract k .id) (p .fields .contracts k l .id) (n .contracts k) g m _ _ _,
-          (asoe-due (B .contract k .id) (p .fields .contracts k l .id) (n .contracts k) g m _ _ _, tt),
+          ace-due (B .contract k .id) (p .fields .contracts k l .id) (n .contracts k) g m (halvesOf (B .contract k .payment) (factorOf (B .contract k .factors) g)) _ _,
+          (asoe-due (B .contract k .id) (p .fields .contracts k l .id) (n .contracts k) g m (halvesOf (B .contract k .payment) (factorOf (B .contract k .factors) g)) _ _, tt),
         );
       }
 

@@ -63,7 +63,7 @@ written-and-read b account xs bytes small e =
     rw (s .bytes)
     (read-back (publicOf B) (rowsOfAccount B account) account
     (heading-written B p account (length ls) (account-low B p account (s .known)) small few)
-    (due-written ls (rw (o .lines) (book-due B p (narrow b bytes) account _)) (s .under)))
+    (due-written ls (rw (o .lines) (book-due B p (narrow b bytes) _ account)) (s .under)))
 
 -- the same of a call's answer and of what it leaves in a lent buffer l: where it answers a length, that many bytes at the front are the
 -- statement that is read back
