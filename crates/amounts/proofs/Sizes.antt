@@ -1,5 +1,5 @@
 -- Every pool, residual pool and half of an accepted book is at most 50,000,000,000, so that every product fits. Assumes nothing.
-use Prim.Native.Nat.{ℕ, _+_, _-_, _*_, _/_, _≤_, _<_}
+use Prim.Native.Nat.{ℕ, _*_, _≤_}
 use mathlib.Core.Path.{_≡_, sym, _∙_}
 use mathlib.Core.Bool.{Bool, true, false, cond}
 use lib.Dec.{eqb}
@@ -42,7 +42,7 @@ pub data-in : (r : Constraint) {m : Mode} {p s u : ℕ} → ConstraintRule r →
 data-in r h e f = rw (sym e ∙ f) at (data-of r h)
 
 -- a rounded 120th of 6,000,000,000,000
-fpp-small : (n : ℕ) → n ≤ 6000000000000 → roundN n 120 ≤ 50000000000
+pub fpp-small : (n : ℕ) → n ≤ 6000000000000 → roundN n 120 ≤ 50000000000
 fpp-small n l = omega (arith, half-below n 120 (omega arith))
 
 pub pools-small : (r : Constraint) → ConstraintRule r → SmallPools (poolsOf r)

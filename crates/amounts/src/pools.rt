@@ -1,11 +1,11 @@
 // What a constraint or a contract has to recover, before it is shared.
 ghost use mathlib.Core.Path.{_≡_};
-ghost use Prim.Native.Nat.{_≤_};
+ghost use Prim.Native.Nat.{_*_, _≤_};
+ghost use Rattle.ground.specs.Round.{roundN};
 ghost use Rattle.records.specs.Facts.{ConstraintRule};
 ghost use Rattle.amounts.specs.Pools.{poolsOf, residualOf, halvesOf};
 ghost use Rattle.amounts.specs.Bounds.{SmallPools};
 use crate::shares;
-use ground::round;
 use records::kinds::Mode;
 use records::rows::Constraint;
 
@@ -30,6 +30,13 @@ pub struct Halves {
     pub sent: u64,
 }
 
+// The FPP pool of a price and a response.
+pub fn fpp_pool(price: u32, response: u32) -> u64
+    ensures { λ x. ⌜ x ≡ roundN (price * response) 120 ⌝ }
+{
+    ((price as u64) * (response as u64) + 60) / 120
+}
+
 // Only a factored constraint's price, response and usage are read.
 pub fn pools_of(r: Constraint) -> Pools
     requires { ⌜ ConstraintRule r ⌝ }
@@ -50,7 +57,7 @@ pub fn pools_of(r: Constraint) -> Pools
     };
     let used = shares::share(r.cost, usage as u64, 1000000);
     Pools {
-        fpp: round::nearest((price as u64) * (response as u64), 120),
+        fpp: fpp_pool(price, response),
         used,
         unused: r.cost - used,
     }

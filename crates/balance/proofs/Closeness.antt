@@ -6,9 +6,7 @@ use mathlib.Core.Bool.{Bool, true, false, cond}
 use mathlib.Core.Logic.{_⊎_, ⊎-elim}
 use native.Mathlib.Omega.{arith}
 use native.Mathlib.Nat.{le-refl, mul-zero}
-use borrow.Author.Tests.{ltb-true, ltb-false}
-use lib.Dec.{ltb}
-use lib.IntN.{pos, negsuc, negℤ, natAbs, _+ℤ_, +ℤ-assoc}
+use lib.IntN.{pos, negℤ, natAbs, _+ℤ_, +ℤ-assoc}
 use Rattle.ground.specs.Round.{roundN}
 use Rattle.ground.specs.Sign.{less}
 use Rattle.ground.proofs.Sizes.{less-size}

@@ -23,7 +23,7 @@ use Rattle.amounts.specs.declared.pools.Residual.{Residual}
 use Rattle.amounts.specs.declared.pools.Halves.{Halves}
 use Rattle.statement.specs.declared.Line.{Line}
 use Rattle.lines.specs.Lines.{Shared, contingencyLine, unitLines, restLines, aceLine, asoeLine}
-use Rattle.lines.specs.Limit.{passesLimit, anyOver}
+use Rattle.lines.specs.Limit.{anyOver}
 
 -- a line within the limit
 pub record Within (l : Line) : Type 0 where

@@ -1,6 +1,5 @@
 // Lines that belong together, written in their order from a place of the buffer on: those of a unit row, and those of a constraint's residual.
 // Each writer answers where its lines end.
-ghost use mathlib.Core.Path.{_≡_};
 ghost use mathlib.Core.List.{[], _∷_};
 ghost use lib.ListN.{length};
 ghost use Rattle.records.specs.Facts.{UnitRule};

@@ -1,7 +1,7 @@
 -- The lines of the constraints and then those of the contracts, over a book's own sections. u and k are where the unit rows and the
 -- contracts start. Assumes nothing.
 use Prim.Native.Nat.{ℕ, _+_, _≤_, _<_}
-use mathlib.Core.Path.{_≡_, refl, sym, ap, _∙_}
+use mathlib.Core.Path.{_≡_, sym, ap, _∙_}
 use mathlib.Core.List.{List, _++_}
 use lib.ListN.{length, length-append}
 use native.Mathlib.Omega.{arith}

@@ -9,21 +9,19 @@ use lib.Dec.{eqb, ltb}
 use lib.ListN.{length, length-append}
 use native.Mathlib.Omega.{arith}
 use Rattle.ground.specs.Put.{Wrote}
-use Rattle.ground.specs.Bytes.{partFrom}
 use Rattle.sections.specs.declared.Verdict.{Verdict}
 use Rattle.sections.specs.declared.Verdict.the-variants.{Accepted, Refused}
-use Rattle.records.specs.Rows.{unitRow, energyRow}
 use Rattle.totals.specs.Totals.{entryOf}
 use Rattle.totals.specs.declared.entries.Totals.{Totals}
-use Rattle.book.specs.Header.{headerOf, unitsFrom, energiesFrom}
+use Rattle.book.specs.Header.{headerOf}
 use Rattle.book.specs.declared.header.Header.{Header}
-use Rattle.book.specs.Book.{Book, bookIn, bookOf}
+use Rattle.book.specs.Book.{Book, bookIn}
 use Rattle.book.specs.Facts.{Laid}
 use Rattle.book.specs.Table.{verdict}
 use Rattle.book.specs.Accepted.{Within, Promise, AcceptedBook}
 use Rattle.book.proofs.Promise.{accepted}
 use Rattle.accounts.specs.Rows.{rowsOf, keep, none, joined}
-use Rattle.accounts.specs.Account.{publicOf, rowsOfAccount, ownEnergy, unknown}
+use Rattle.accounts.specs.Account.{publicOf, rowsOfAccount, unknown}
 use Rattle.accounts.specs.Held.{HeldIs}
 use Rattle.accounts.specs.declared.Held.{Held}
 use Rattle.accounts.proofs.Own.{own-within, held-own, held-unknown}

@@ -1,17 +1,14 @@
 -- Loops that emit what each record gives, one after the other; and what each constraint and each contract rests on. Assumes nothing.
 use Prim.Native.Nat.{ℕ, _+_, _≤_, _<_}
-use mathlib.Core.Path.{_≡_, refl, sym, ap, _∙_}
+use mathlib.Core.Path.{_≡_}
 use mathlib.Core.List.{List, [], _∷_}
 use borrow.Author.Tests.{eq-eqb, ne-eqb}
-use lib.ListN.{length, getD}
-use native.Mathlib.Omega.{arith}
-use Rattle.sections.specs.Walk.{Stands, Past}
+use lib.ListN.{length}
 use Rattle.records.specs.Rules.{factorOf}
 use Rattle.records.specs.declared.rows.Entry.{Entry}
 use Rattle.records.specs.declared.rows.Constraint.{Constraint}
 use Rattle.records.specs.declared.rows.UnitRow.{UnitRow}
 use Rattle.records.specs.declared.rows.Contract.{Contract}
-use Rattle.factors.specs.Naming.{idOf, keyOf}
 use Rattle.totals.specs.Divisors.{divisorOf}
 use Rattle.totals.specs.Totals.{entryOf}
 use Rattle.totals.specs.declared.entries.Totals.{Totals}
@@ -20,7 +17,7 @@ use Rattle.amounts.specs.declared.pools.Halves.{Halves}
 use Rattle.accounts.specs.Rows.{joined}
 use Rattle.accounts.proofs.Joined.{joined-none, joined-more, joined-all, joined-room}
 use Rattle.statement.specs.declared.Line.{Line}
-use Rattle.lines.specs.Lines.{Shared, aceLine, asoeLine}
+use Rattle.lines.specs.Lines.{aceLine, asoeLine}
 use Rattle.lines.specs.Emitted.{Emitted, Room}
 use Rattle.lines.proofs.Emission.{emitted-none, emitted-more, room-less, room-rest}
 use Rattle.settlement.specs.Settle.{regionLines}

@@ -1,7 +1,7 @@
 -- The lines of a constraint's unit rows, row by row: before its run there are none, and after it no more. Assumes nothing.
 use Prim.Native.Nat.{ℕ, _+_, _≤_, _<_}
-use mathlib.Core.Path.{_≡_, refl, sym, _∙_}
-use mathlib.Core.List.{List, [], _++_}
+use mathlib.Core.Path.{_≡_}
+use mathlib.Core.List.{List, []}
 use borrow.Author.Tests.{eq-eqb, ne-eqb}
 use lib.ListN.{length}
 use native.Mathlib.Omega.{arith}
@@ -18,7 +18,6 @@ use Rattle.lines.specs.Lines.{unitLines}
 use Rattle.lines.specs.Emitted.{Emitted, Room}
 use Rattle.lines.proofs.Emission.{emitted-none, emitted-more, room-less, room-rest}
 use Rattle.settlement.specs.Walks.{ownLines, unitLinesAt, UnitsDone}
-use Rattle.settlement.specs.declared.units.Cursor.{Cursor}
 
 -- ---- one row
 

@@ -1,5 +1,4 @@
 // An account's lines of one constraint. Unit rows stand by their constraints, so a cursor walks them beside the constraints.
-ghost use mathlib.Core.Path.{_≡_};
 ghost use Prim.Native.Nat.{_*_, _≤_};
 ghost use lib.ListN.{length};
 ghost use Rattle.sections.specs.Walk.{Stands};

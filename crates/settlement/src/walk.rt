@@ -1,5 +1,4 @@
 // All lines of an account, in the statement's order: constraint by constraint, then contract by contract.
-ghost use mathlib.Core.Path.{_≡_};
 ghost use Prim.Native.Nat.{ℕ, _*_, _≤_, _<_};
 ghost use lib.ListN.{length};
 ghost use Rattle.records.specs.Rows.{entryRow, constraintRow, unitRow, contractRow};

@@ -25,24 +25,15 @@ cast-share c = search needs
 share-requires : tie.Need-share-requires
 share-requires c κs = (c .before .before .before .before .pre .cost, (data-in _ (c .before .before .before .before .pre) (c .before .before .before .of .ensures) (c .before .mode .given .1) .used, omega arith))
 
-cast-nearest : tie.Need-cast-nearest
-cast-nearest c = search needs
+fpp-pool-requires : tie.Need-fpp-pool-requires
+fpp-pool-requires c κs = search needs
 
-cast-nearest-2 : tie.Need-cast-nearest-2
-cast-nearest-2 c = search needs
-
-mul-nearest : tie.Need-mul-nearest
-mul-nearest c = omega (arith, data-in _ (c .before .before .before .before .before .pre) (c .before .before .before .before .of .ensures) (c .before .before .mode .given .1) .product)
-
-nearest-requires : tie.Need-nearest-requires
-nearest-requires c κs = search needs
-
-sub-t11 : tie.Need-sub-t11
-sub-t11 c = omega (arith, c .before .before .share .ensures, round-share (c .before .before .before .before .before .before .before .args .r .cost) (c .before .before .before .before .mode .given .0 .1 .1 .0) 1000000 (data-in _ (c .before .before .before .before .before .before .before .pre) (c .before .before .before .before .before .before .of .ensures) (c .before .before .before .before .mode .given .1) .used))
+sub-t8 : tie.Need-sub-t8
+sub-t8 c = omega (arith, c .before .before .share .ensures, round-share (c .before .before .before .before .before .before .before .args .r .cost) (c .before .before .before .before .mode .given .0 .1 .1 .0) 1000000 (data-in _ (c .before .before .before .before .before .before .before .pre) (c .before .before .before .before .before .before .of .ensures) (c .before .before .before .before .mode .given .1) .used))
 
 returns-2 : tie.Need-returns-2
 unfolding poolsIn
-returns-2 c = rw (sym (c .before .before .before .before .before .before .of .ensures), c .before .before .before .before .mode .given .1, c .before .before .share .ensures, c .before .nearest .ensures)
+returns-2 c = rw (sym (c .before .before .before .before .before .before .of .ensures), c .before .before .before .before .mode .given .1, c .before .before .share .ensures, c .before .fpp-pool .ensures)
 
 pub pools-of-spec : {M : Type 1} → statement M
 pools-of-spec =
@@ -53,9 +44,6 @@ pools-of-spec =
     returns
     cast-share
     share-requires
-    cast-nearest
-    cast-nearest-2
-    mul-nearest
-    nearest-requires
-    sub-t11
+    fpp-pool-requires
+    sub-t8
     returns-2)

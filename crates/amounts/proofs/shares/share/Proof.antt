@@ -1,6 +1,6 @@
 -- `amounts::shares::share` meets its contract. The product fits, since a pool is at most 50,000,000,000 and a total at most
 -- 100,000,000, and so does the sum. Assumes nothing.
-use Prim.Native.Nat.{_*_, _≤_}
+use Prim.Native.Nat.{_*_}
 use mathlib.Core.Path.{sym}
 use native.Mathlib.Omega.{arith}
 use native.Mathlib.Nat.{mul-le-mul}

@@ -1,15 +1,15 @@
--- `settlement::limit::constraint_over` meets its contract. Its pools are those of the definition. Assumes nothing.
+-- `settlement::limit::constraint_over` meets its contract. The FPP pool is the definition's. Assumes nothing.
 use borrow.Author.Needs.{needs}
 use Rattle.settlement.specs.Limits.{constraintOver}
 use Rattle.settlement.proofs.limit.constraint_over.Statement.{statement}
 use Rattle.settlement.proofs.limit.constraint_over.Tie as tie
 
-pools-of-requires : tie.Need-pools-of-requires
-pools-of-requires c κs = search needs
+fpp-pool-requires : tie.Need-fpp-pool-requires
+fpp-pool-requires c κs = search needs
 
 returns : tie.Need-returns
 unfolding constraintOver
-returns c = rw (c .before .before .before .pools-of .ensures)
+returns c = rw (c .fpp-pool .ensures)
 
 pub constraint-over-spec : {M : Type 1} → statement M
-constraint-over-spec = tie.close (tie.spec pools-of-requires returns)
+constraint-over-spec = tie.close (tie.spec fpp-pool-requires returns)

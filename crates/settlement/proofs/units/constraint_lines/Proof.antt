@@ -1,6 +1,5 @@
 -- `settlement::units::constraint_lines` meets its contract. The mode decides: one line, or those of the unit rows and of the residual. Assumes nothing.
 use mathlib.Core.Path.{_∙_}
-use borrow.Author.Needs.{needs}
 use native.Mathlib.Omega.{arith}
 use Rattle.ground.proofs.Put.{wrote-length}
 use Rattle.lines.proofs.Emission.{emitted-one, emitted-length}

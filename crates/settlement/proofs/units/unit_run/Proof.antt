@@ -1,7 +1,6 @@
 -- `settlement::units::unit_run` meets its contract. The invariant, `Running`: the lines of the rows so far are out, and the rows before and behind lie on the right sides of the key. The measure is what is left. Assumes nothing.
 use Prim.Native.Nat.{_-_}
 use native.Mathlib.Omega.{arith}
-use borrow.Author.Needs.{needs}
 use Rattle.settlement.proofs.UnitRuns.{Running, running-start, running-room, running-more, running-stop, running-done}
 use Rattle.lines.proofs.Emission.{emitted-length}
 use Rattle.records.specs.Rows.{unitRow}
