@@ -74,25 +74,24 @@ module _ (B : Book) (account : ℕ) (own : Totals) (p : Promise B) (o : Owned B 
 -- ---- how many lines there are
 
 module _ (B : Book) (account : ℕ) (p : Promise B) where
-  pub few-of : (own : Totals) → length (bookLines B account own) ≤ 2152
+  pub most-of : (own : Totals) → length (bookLines B account own) ≤ 3 * B .header .units + 3 * B .header .constraints + 10 * B .header .contracts
   unfolding bookLines
-  few-of own =
+  most-of own =
       let c = joined (conLinesAt (B .entry) (B .constraint) (B .unit) (B .header .units) account own) (B .header .constraints) in
       let k = joined (contractLinesAt (B .entry) (entryOf own) (B .contract)) (B .header .contracts) in
-      let m = p .few in
       omega (
         arith,
         length-append c k,
         few-lines (B .entry) (B .constraint) (B .header .constraints) (B .unit) (B .header .units) account own (p .ordered .constraints),
         few-pays (B .entry) (entryOf own) (B .contract) (B .header .contracts),
-        m .constraints,
-        m .units,
-        m .contracts,
       )
 
-  -- with room for 2,152 lines there is room
-  pub room-for-all : {room : ℕ} → 51672 ≤ room → (own : Totals) → false ≡ ltb room (24 + length (bookLines B account own) * 24)
-  room-for-all {room} h own = sym (le-ltb room (24 + length (bookLines B account own) * 24) (omega (arith, few-of own)))
+  pub few-of : (own : Totals) → length (bookLines B account own) ≤ 2152
+  few-of own = omega (arith, most-of own, p .few .constraints, p .few .units, p .few .contracts)
+
+  -- with room for the most lines there is room
+  pub room-for-all : {most room : ℕ} → most ≡ 3 * B .header .units + 3 * B .header .constraints + 10 * B .header .contracts → 24 + most * 24 ≤ room → (own : Totals) → false ≡ ltb room (24 + length (bookLines B account own) * 24)
+  room-for-all {most} {room} e h own = sym (le-ltb room (24 + length (bookLines B account own) * 24) (omega (arith, most-of own)))
 
   pub short-counted : (room : ℕ) {x : ℕ} → BookCounted B account x → (own : Totals) → ltb room (24 + x * 24) ≡ ltb room (24 + length (bookLines B account own) * 24)
   short-counted room c own = ap (λ (n : ℕ). ltb room (24 + n * 24)) (c .lines own)

@@ -10,7 +10,7 @@ ghost use lib.ListN.{length};
 ghost use lib.Dec.{ltb};
 ghost use Rattle.ground.specs.Put.{Wrote};
 ghost use Rattle.book.specs.Book.{bookIn};
-ghost use Rattle.book.specs.Facts.{Laid};
+ghost use Rattle.book.specs.Facts.{Few, Laid};
 ghost use Rattle.book.specs.Accepted.{Promise};
 ghost use Rattle.accounts.specs.Account.{publicOf, rowsOfAccount};
 ghost use Rattle.statement.specs.Lent.{Lent};
@@ -43,13 +43,22 @@ fn write(buffer: &mut [u8], book: &[u8], h: Header, own: Totals, account: u32) -
     end
 }
 
-// Whether the statement has more bytes than there is room for. Nothing is counted where there is room for the longest, 2,152 lines.
+// No account has more lines: three of each unit row and each constraint, and ten of each contract.
+fn most_lines(h: Header) -> usize
+    requires { ⌜ Few h ⌝ }
+    ensures { λ x. ⌜ x ≡ 3 * h .units + 3 * h .constraints + 10 * h .contracts ⌝ }
+{
+    3 * (h.units as usize) + 3 * (h.constraints as usize) + 10 * (h.contracts as usize)
+}
+
+// Whether the statement has more bytes than there is room for. Where there is room for the most lines that the book's counts allow, none is
+// counted.
 fn is_short(book: &[u8], h: Header, account: u32, room: usize) -> bool
     requires { ⌜ Laid (now book) h ⌝ }
     requires { ⌜ Promise (bookIn (now book) h) ⌝ }
     ensures { λ b. ⌜ ((own : Totals) → b ≡ ltb room (24 + length (bookLines (bookIn (now (book .entry)) h) account own) * 24)) ⌝ }
 {
-    if 51672 <= room {
+    if 24 + most_lines(h) * 24 <= room {
         return false;
     }
     room < 24 + count::all_lines(book, h, account) * 24
