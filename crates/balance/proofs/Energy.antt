@@ -4,12 +4,11 @@ use Prim.Native.Nat.{ℕ, suc, _^_, _≤_, _<_}
 use mathlib.Core.Path.{_≡_, refl, sym, ap, _∙_}
 use mathlib.Core.Bool.{Bool, true, false, cond, not}
 use native.Mathlib.Omega.{arith}
-use native.Mathlib.Nat.{le-refl, le-trans, le-of-eq}
 use borrow.Author.Tests.{eq-eqb, ne-eqb}
 use lib.Dec.{eqb}
 use Rattle.sections.specs.Total.{total, keyed, totalOf}
 use Rattle.sections.specs.Search.{all}
-use Rattle.sections.proofs.Total.{total-zero, total-rest, total-under, total-same, total-swap, keyed-hit, keyed-miss, keyed-le}
+use Rattle.sections.proofs.Total.{total-zero, total-rest, total-same, total-swap, keyed-hit, keyed-miss}
 use Rattle.sections.proofs.Search.{all-each}
 use Rattle.records.specs.Kinds.{raises, regulates, bitSet}
 use Rattle.records.specs.declared.rows.Entry.{Entry}
@@ -31,13 +30,6 @@ unfolding total
 total-only f c n l h =
     let z = total-zero f c (λ k m. h k (omega arith) (λ (e : k ≡ c). omega arith)) in
     sym (total-rest f (suc c) n l (λ k a b. h k b (λ (e : k ≡ c). omega arith))) ∙ rw (← z) (omega arith)
-
--- each number is at most the sum
-pub total-has : (f : ℕ → ℕ) (n i : ℕ) → i < n → f i ≤ total f n
-total-has f n i l =
-    le-trans
-    (le-of-eq (keyed-hit (λ k. k) i f i refl ∙ sym (total-only (keyed (λ k. k) i f) i n l (λ k m d. keyed-miss (λ k. k) i f k d))))
-    (total-under (keyed (λ k. k) i f) f n (λ k m. keyed-le (λ k. k) i f (f k) k (le-refl (f k))))
 
 -- a choice of the whole sum, or of each of its numbers
 choice-total : (t : Bool) (f : ℕ → ℕ) (n : ℕ) → cond t (total f n) 0 ≡ total (λ i. cond t (f i) 0) n

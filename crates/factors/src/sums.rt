@@ -23,16 +23,17 @@ pub struct Sums {
     pub dcf: u64,
 }
 
-// A sum of sizes and one more, which is a factor's and so small.
+// A sum over at most 600 rows, and one row's size more.
 fn more(sum: u64, by: u32) -> u64
-    requires { ⌜ sum ≤ 600000000 ⌝ }
+    requires { ⌜ sum ≤ 3000000000000 ⌝ }
     ensures { λ r. ⌜ r ≡ sum + by ⌝ }
 {
     sum + (by as u64)
 }
 
-fn add(t: Sums, r: UnitRow) -> Sums
-    requires { ⌜ (t .next ≤ 600) × ((t .plus ≤ 600000000) × ((t .minus ≤ 600000000) × (t .dcf ≤ 600000000))) ⌝ }
+// The sums with one row more.
+pub fn add(t: Sums, r: UnitRow) -> Sums
+    requires { ⌜ (t .next ≤ 600) × ((t .plus ≤ 3000000000000) × ((t .minus ≤ 3000000000000) × (t .dcf ≤ 3000000000000))) ⌝ }
     ensures { λ x. ⌜ Added t r x ⌝ }
 {
     Sums {

@@ -1,18 +1,17 @@
 -- Rows that were summed and entries that have their sums keep checks 5, 6 and 9. Assumes nothing.
-use Prim.Native.Nat.{ℕ, zero, suc, _≤_, _<_}
+use Prim.Native.Nat.{ℕ, _≤_, _<_}
 use mathlib.Core.Path.{_≡_, refl, sym}
 use mathlib.Core.Bool.{Bool, true}
 use mathlib.Core.List.{List, [], _∷_}
-use mathlib.Core.Logic.{⊎-elim}
 use native.Mathlib.Omega.{arith}
-use native.Mathlib.Nat.{eq-or-lt-of-le, le-of-suc-le-suc, not-suc-le-zero, le-trans}
+use native.Mathlib.Nat.{le-trans}
 use borrow.Author.Tests.{le-leb, eq-eqb, eqb-true}
 use lib.ListN.{getD}
 use Rattle.ground.specs.Every.{allOf}
 use Rattle.ground.proofs.Every.{every, all}
-use Rattle.sections.specs.Total.{total, keyed}
+use Rattle.sections.specs.Total.{keyed}
 use Rattle.sections.specs.Walk.{Split}
-use Rattle.sections.proofs.Total.{keyed-hit}
+use Rattle.sections.proofs.Total.{keyed-hit, total-has}
 use Rattle.records.specs.Rules.{energyTests, energyOk}
 use Rattle.records.specs.declared.rows.Entry.{Entry}
 use Rattle.records.specs.declared.rows.EnergyRow.{EnergyRow}
@@ -21,16 +20,6 @@ use Rattle.totals.specs.declared.entries.Totals.{Totals}
 use Rattle.totals.proofs.Turns.{entry-is-at, five}
 use Rattle.quick.specs.Holds.{EnergiesHold}
 use Rattle.quick.specs.Energies.{RowHolds, SummedIs, EntryHolds}
-
--- a sum is at least each of its numbers
-total-has : (f : ℕ → ℕ) (n i : ℕ) → i < n → f i ≤ total f n
-unfolding total
-total-has f zero i l = absurd (not-suc-le-zero l)
-total-has f (suc n) i l =
-    ⊎-elim
-    (λ (e : i ≡ n). rw e (omega arith))
-    (λ (m : i < n). omega (arith, total-has f n i m))
-    (eq-or-lt-of-le (le-of-suc-le-suc l))
 
 -- a group's sum is at least each of its records' numbers
 split-has : (group f : ℕ → ℕ) (n i : ℕ) {l : List ℕ} → Split 5 group f n l → i < n → group i < 5 → f i ≤ getD l (group i) 0

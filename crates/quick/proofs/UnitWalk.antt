@@ -1,6 +1,6 @@
 -- The walk over the constraints, run after run: what is known of the rows taken so far stays true, and at the end all rows are taken.
 -- Assumes nothing.
-use Prim.Native.Nat.{ℕ, zero, suc, _+_, _≤_, _<_}
+use Prim.Native.Nat.{ℕ, _+_, _≤_, _<_}
 use mathlib.Core.Path.{_≡_, sym}
 use mathlib.Core.Bool.{true, not, _&&_}
 use mathlib.Core.Logic.{⊎-elim}
@@ -8,14 +8,13 @@ use borrow.Author.Tests.{le-leb, eq-eqb, ne-eqb}
 use borrow.Author.Count.{below-none, below-more}
 use lib.Dec.{eqb}
 use native.Mathlib.Omega.{arith}
-use native.Mathlib.Nat.{not-suc-le-zero, eq-or-lt-of-le, le-of-suc-le-suc}
 use Rattle.ground.proofs.Every.{all}
 use Rattle.sections.specs.Order.{risesBy, Rises}
 use Rattle.sections.specs.Search.{some}
 use Rattle.sections.specs.Walk.{Under}
-use Rattle.sections.specs.Total.{total, keyed}
+use Rattle.sections.specs.Total.{keyed}
 use Rattle.sections.proofs.Search.{some-here, lt-or-ge}
-use Rattle.sections.proofs.Total.{total-rest, keyed-hit, keyed-miss}
+use Rattle.sections.proofs.Total.{total-rest, keyed-hit, keyed-miss, total-has}
 use Rattle.records.specs.Rules.{unitTests, unitOk, unitBelow}
 use Rattle.records.specs.declared.rows.Constraint.{Constraint}
 use Rattle.records.specs.declared.rows.UnitRow.{UnitRow}
@@ -25,16 +24,6 @@ use Rattle.factors.specs.declared.sums.Sums.{Sums}
 use Rattle.factors.proofs.Runs.{none-is}
 use Rattle.quick.specs.Holds.{UnitsHold}
 use Rattle.quick.specs.Units.{Taken, Settled}
-
--- one of the numbers is at most their sum
-total-part : (f : ℕ → ℕ) (n i : ℕ) → i < n → f i ≤ total f n
-unfolding total
-total-part f zero i l = absurd (not-suc-le-zero l)
-total-part f (suc n) i l =
-    ⊎-elim
-    (λ (e : i ≡ n). rw e (omega arith))
-    (λ (h : i < n). omega (arith, total-part f n i h))
-    (eq-or-lt-of-le (le-of-suc-le-suc l))
 
 module _ (con : ℕ → Constraint) (n : ℕ) (row : ℕ → UnitRow) (m : ℕ) where
   -- the first j constraints and the rows before place u keep all rules, where only those rows count
@@ -63,7 +52,7 @@ module _ (con : ℕ → Constraint) (n : ℕ) (row : ℕ → UnitRow) (m : ℕ) 
     -- a number of a row in the run is at most the sum
     part : (f : UnitRow → ℕ) {x : ℕ} (i : ℕ) → i < t .next → row i .constraint ≡ con j .id → x ≡ sumOver row (t .next) (con j .id) f → x ≤ 1000000 → f (row i) ≤ 1000000
     part f i d e q b =
-        let z = total-part (keyed (keyOf row) (con j .id) (λ v. f (row v))) (t .next) i d in
+        let z = total-has (keyed (keyOf row) (con j .id) (λ v. f (row v))) (t .next) i d in
         rw (keyed-hit (keyOf row) (con j .id) (λ v. f (row v)) i e) (omega arith)
 
     fields-of : (i : ℕ) → u ≤ i → i < t .next → unitOk (row i) ≡ true

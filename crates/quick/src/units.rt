@@ -9,7 +9,6 @@ ghost use Rattle.sections.specs.Order.{Rises};
 ghost use Rattle.sections.specs.Walk.{Under};
 ghost use Rattle.records.specs.Rows.{constraintRow, unitRow};
 ghost use Rattle.factors.specs.Naming.{idOf, keyOf};
-ghost use Rattle.factors.specs.Runs.{Added};
 ghost use Rattle.quick.specs.Holds.{UnitsHold};
 ghost use Rattle.quick.specs.Units.{follows, smallSums, Taken, Settled};
 use factors::sums;
@@ -23,27 +22,6 @@ fn in_run(r: UnitRow, key: u32, last: u32) -> bool
     ensures { λ b. ⌜ b ≡ follows r key last ⌝ }
 {
     (r.constraint == key) & (last < r.unit) & (1 <= r.account)
-}
-
-// A sum over at most 600 rows, and one row's size more.
-fn more(sum: u64, by: u32) -> u64
-    requires { ⌜ sum ≤ 3000000000000 ⌝ }
-    ensures { λ r. ⌜ r ≡ sum + by ⌝ }
-{
-    sum + (by as u64)
-}
-
-// The sums with one row more.
-fn take(t: Sums, r: UnitRow) -> Sums
-    requires { ⌜ (t .next ≤ 600) × ((t .plus ≤ 3000000000000) × ((t .minus ≤ 3000000000000) × (t .dcf ≤ 3000000000000))) ⌝ }
-    ensures { λ x. ⌜ Added t r x ⌝ }
-{
-    Sums {
-        next: t.next + 1,
-        plus: more(t.plus, r.plus),
-        minus: more(t.minus, r.minus),
-        dcf: more(t.dcf, r.dcf),
-    }
 }
 
 // The rows of one constraint from a place on, as far as they follow each other: their sums, and the place behind them.
@@ -66,7 +44,7 @@ fn run(units: &[u8], m: usize, from: usize, key: u32) -> Sums
             return t;
         }
         last = r.unit;
-        t = take(t, r);
+        t = sums::add(t, r);
     }
     t
 }

@@ -8,7 +8,7 @@ use borrow.Author.Tests.{eq-eqb, ne-eqb}
 use lib.Dec.{eqb}
 use native.Mathlib.Omega.{arith}
 use native.Mathlib.Numerals.{add-one}
-use native.Mathlib.Nat.{suc-mul, le-refl, le-trans, mul-le-mul-right, add-zero, zero-add, eq-or-lt-of-le, le-of-suc-le-suc}
+use native.Mathlib.Nat.{suc-mul, le-refl, le-trans, mul-le-mul-right, add-zero, zero-add, eq-or-lt-of-le, le-of-suc-le-suc, not-suc-le-zero}
 use Rattle.sections.specs.Total.{total, keyed}
 use Rattle.sections.specs.Search.{all}
 use Rattle.sections.proofs.Search.{to-zero}
@@ -54,6 +54,16 @@ module _ (f : ℕ → ℕ) where
       (λ (e : i ≡ suc n). rw e)
       (λ (j : i < suc n). rw (h n (le-of-suc-le-suc j) (le-refl (suc n)), add-zero) (total-rest i n (le-of-suc-le-suc j) (λ k a b. h k a (omega arith))))
       (eq-or-lt-of-le l)
+
+-- a sum is at least each of its numbers
+pub total-has : (f : ℕ → ℕ) (n i : ℕ) → i < n → f i ≤ total f n
+unfolding total
+total-has f zero i l = absurd (not-suc-le-zero l)
+total-has f (suc n) i l =
+    ⊎-elim
+    (λ (e : i ≡ n). rw e (omega arith))
+    (λ (m : i < n). omega (arith, total-has f n i m))
+    (eq-or-lt-of-le (le-of-suc-le-suc l))
 
 -- where each of the first n numbers is at most another, so are their sums
 pub total-under : (f g : ℕ → ℕ) (n : ℕ) → ((k : ℕ) → k < n → f k ≤ g k) → total f n ≤ total g n

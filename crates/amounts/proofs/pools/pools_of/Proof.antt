@@ -1,5 +1,5 @@
 -- `amounts::pools::pools_of` meets its contract. A factored mode gives its data, and any other leaves all unused. Assumes nothing.
-use mathlib.Core.Path.{_≡_, refl, sym, _∙_}
+use mathlib.Core.Path.{_≡_, refl, sym}
 use native.Mathlib.Omega.{arith}
 use borrow.Author.Needs.{needs}
 use Rattle.records.proofs.Modes.{unfactored}

@@ -25,14 +25,14 @@ in-run-requires c κs = search needs
 returns : tie.Need-returns Inv-loop μ-loop
 returns c = c .before .before .before .before .before .loop .inv .taken
 
-take-requires : tie.Need-take-requires Inv-loop μ-loop
-take-requires c κs = let few = c .before .before .before .before .before .before .before .pre .0 .1 .0 in let h = taken-fits _ _ _ _ few (c .before .before .before .before .before .loop .inv .taken) in (omega arith, (h .plus, (h .minus, h .dcf)))
+add-requires : tie.Need-add-requires Inv-loop μ-loop
+add-requires c κs = let few = c .before .before .before .before .before .before .before .pre .0 .1 .0 in let h = taken-fits _ _ _ _ few (c .before .before .before .before .before .loop .inv .taken) in (omega arith, (h .plus, (h .minus, h .dcf)))
 
 loop-less : tie.Need-loop-less Inv-loop μ-loop
-loop-less c = omega (arith, c .take .ensures .next)
+loop-less c = omega (arith, c .add .ensures .next)
 
 loop-again : tie.Need-loop-again Inv-loop μ-loop
-loop-again c = going-more _ _ _ _ (c .before .before .before .before .before .before .loop .inv) (c .before .before .before .before .if1 .taken) (c .before .before .before .unit-row .ensures) (c .before .before .in-run .ensures) (c .before .if2 .left) (c .take .ensures)
+loop-again c = going-more _ _ _ _ (c .before .before .before .before .before .before .loop .inv) (c .before .before .before .before .if1 .taken) (c .before .before .before .unit-row .ensures) (c .before .before .in-run .ensures) (c .before .if2 .left) (c .add .ensures)
 
 returns-2 : tie.Need-returns-2 Inv-loop μ-loop
 returns-2 c = c .before .before .loop .inv .taken
@@ -47,7 +47,7 @@ run-spec =
     unit-row-requires
     in-run-requires
     returns
-    take-requires
+    add-requires
     loop-less
     loop-again
     returns-2)
