@@ -1,6 +1,6 @@
 -- The energy of rows, summed by region and then over the regions of a part, is the energy that the part counts, summed over the rows: for all
 -- rows, and for an account's own. Assumes nothing.
-use Prim.Native.Nat.{ℕ, suc, _^_, _≤_, _<_}
+use Prim.Native.Nat.{ℕ, _^_, _≤_, _<_}
 use mathlib.Core.Path.{_≡_, refl, sym, ap, _∙_}
 use mathlib.Core.Bool.{Bool, true, false, cond, not}
 use native.Mathlib.Omega.{arith}
@@ -8,7 +8,7 @@ use borrow.Author.Tests.{eq-eqb, ne-eqb}
 use lib.Dec.{eqb}
 use Rattle.sections.specs.Total.{total, keyed, totalOf}
 use Rattle.sections.specs.Search.{all}
-use Rattle.sections.proofs.Total.{total-zero, total-rest, total-same, total-swap, keyed-hit, keyed-miss}
+use Rattle.sections.proofs.Total.{total-zero, total-same, total-swap, keyed-hit, keyed-miss, total-only}
 use Rattle.sections.proofs.Search.{all-each}
 use Rattle.records.specs.Kinds.{raises, regulates, bitSet}
 use Rattle.records.specs.declared.rows.Entry.{Entry}
@@ -23,13 +23,6 @@ use Rattle.parties.specs.declared.shares.Part.{Part}
 use Rattle.balance.specs.Shapes.{constraintBasis, partOf}
 
 -- ---- sums
-
--- where one record alone counts, the sum is what it counts for
-pub total-only : (f : ℕ → ℕ) (c n : ℕ) → c < n → ((k : ℕ) → k < n → (k ≡ c → ⊥) → f k ≡ 0) → total f n ≡ f c
-unfolding total
-total-only f c n l h =
-    let z = total-zero f c (λ k m. h k (omega arith) (λ (e : k ≡ c). omega arith)) in
-    sym (total-rest f (suc c) n l (λ k a b. h k b (λ (e : k ≡ c). omega arith))) ∙ rw (← z) (omega arith)
 
 -- a choice of the whole sum, or of each of its numbers
 choice-total : (t : Bool) (f : ℕ → ℕ) (n : ℕ) → cond t (total f n) 0 ≡ total (λ i. cond t (f i) 0) n

@@ -14,7 +14,7 @@ use Rattle.ground.specs.Bytes.{partFrom}
 use Rattle.ground.specs.Round.{roundN}
 use Rattle.ground.proofs.Rounding.{round-share}
 use Rattle.sections.specs.Total.{total, keyed, totalOf}
-use Rattle.sections.proofs.Total.{total-more, total-bound, total-zero, total-same, total-swap, keyed-hit, keyed-miss, keyed-plus, total-five, total-has}
+use Rattle.sections.proofs.Total.{total-more, total-bound, total-zero, total-same, total-swap, keyed-hit, keyed-miss, keyed-plus, total-five, total-has, total-only}
 use Rattle.records.specs.Rows.{energyRow}
 use Rattle.records.specs.Kinds.{bitSet}
 use Rattle.records.specs.Rules.{factorOf}
@@ -34,7 +34,7 @@ use Rattle.parties.proofs.Rows.{part-rows}
 use Rattle.balance.specs.Pools.{benefiting}
 use Rattle.balance.specs.Shapes.{consumedPart, sentPart, regionSum}
 use Rattle.balance.specs.Rests.{OfContract, PaidIs, Listed, ListsAre, twoShares, rowPays, Fair, Payable, AllPayable}
-use Rattle.balance.proofs.Energy.{total-only, choice-none, one-region}
+use Rattle.balance.proofs.Energy.{choice-none, one-region}
 use Rattle.balance.proofs.Shareables.{sorted, consumed-shareable, sent-shareable}
 
 -- ---- the lists, region by region

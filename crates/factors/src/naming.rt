@@ -11,7 +11,7 @@ use records::rows;
 use sections::Checked;
 
 // The place of the key among the constraints' ids, looked for from a place before which no id is as large.
-fn seek(cons: &[u8], n: usize, from: usize, key: u32) -> usize
+pub fn seek(cons: &[u8], n: usize, from: usize, key: u32) -> usize
     requires { ⌜ (n * 40 ≤ length (now cons)) × (from ≤ n) ⌝ }
     requires { ⌜ Under (idOf (constraintRow (now cons))) from key ⌝ }
     ensures { λ c. ⌜ Sought (idOf (constraintRow (now (cons .entry)))) n key c ⌝ }

@@ -1,41 +1,42 @@
 -- Lines counted without being made: a unit row's, a run's, a constraint's, a contract's, and all. Assumes nothing.
-use Prim.Native.Nat.{ℕ, zero, suc, _+_, _*_, _≤_, _<_}
+use Prim.Native.Nat.{ℕ, zero, suc, _+_, _≤_, _<_}
 use mathlib.Core.Path.{_≡_, refl, sym, ap, ap₂, _∙_}
 use mathlib.Core.Bool.{Bool, true, false, cond}
-use mathlib.Core.List.{List}
+use mathlib.Core.List.{List, []}
 use mathlib.Core.Logic.{_⊎_, inl, inr, ⊎-elim}
 use borrow.Author.Tests.{eq-eqb, ne-eqb}
 use lib.Dec.{eqb}
 use lib.ListN.{length, length-append}
 use native.Mathlib.Omega.{arith}
+use native.Mathlib.Nat.{eq-or-lt-of-le}
 use Rattle.ground.specs.Bytes.{partFrom}
-use Rattle.sections.specs.Walk.{Stands, Past}
-use Rattle.sections.proofs.Walk.{Run, run-start, run-next, run-stop, run-done}
-use Rattle.sections.proofs.Total.{total-five}
+use Rattle.sections.specs.Total.{total, keyed}
+use Rattle.sections.specs.Walk.{Under, Sought}
+use Rattle.sections.proofs.Walk.{under-later}
+use Rattle.sections.proofs.Total.{total-none, total-more, total-all, total-zero, total-same, total-plus, total-swap, total-only, total-five, keyed-hit, keyed-miss}
+use Rattle.sections.proofs.Search.{lt-or-ge}
 use Rattle.records.specs.Rules.{factorOf}
 use Rattle.records.specs.Rows.{entryRow, constraintRow, unitRow, contractRow}
 use Rattle.records.specs.declared.rows.Entry.{Entry}
 use Rattle.records.specs.declared.rows.Constraint.{Constraint}
 use Rattle.records.specs.declared.rows.UnitRow.{UnitRow}
 use Rattle.records.specs.declared.rows.Contract.{Contract}
-use Rattle.factors.specs.Naming.{keyOf}
-use Rattle.factors.specs.Runs.{Walked}
-use Rattle.totals.specs.Divisors.{divisorOf}
+use Rattle.factors.specs.Naming.{idOf, keyOf}
 use Rattle.totals.specs.Totals.{entryOf}
 use Rattle.totals.specs.declared.entries.Totals.{Totals}
 use Rattle.amounts.specs.Pools.{poolsOf, residualOf}
 use Rattle.amounts.specs.declared.pools.Residual.{Residual}
 use Rattle.accounts.specs.Rows.{joined}
-use Rattle.accounts.proofs.Joined.{joined-none, joined-more, joined-all, joined-nothing, joined-rest, joined-length}
+use Rattle.accounts.proofs.Joined.{joined-none, joined-more, joined-all, joined-length}
 use Rattle.book.specs.Book.{bookIn}
 use Rattle.book.specs.Header.{unitsFrom, contractsFrom}
 use Rattle.book.specs.declared.header.Header.{Header}
 use Rattle.lines.specs.Lines.{unitLines, restLines}
 use Rattle.settlement.specs.Settle.{regionLines}
 use Rattle.settlement.specs.Walks.{ownLines, unitLinesAt, conLines, conLinesAt, contractLinesAt, bookLines}
-use Rattle.settlement.specs.Counts.{UnitsCounted, LinesCounted, BareOf, Countable, ConstraintsCounted, ContractCounted, ContractsCounted, BookCounted}
-use Rattle.settlement.specs.declared.count.Counted.{Counted}
-use Rattle.settlement.proofs.UnitRuns.{other, this}
+use Rattle.settlement.specs.Counts.{eachOf, countIn, rowCount, UnitsCounted, BareOf, Countable, MetAt, ConstraintsCounted, ContractCounted, ContractsCounted, BookCounted}
+use Rattle.settlement.specs.declared.count.Met.{Met}
+use Rattle.settlement.proofs.Given.{rises-once}
 
 -- whichever of two lists is taken, so long it is
 choice-length : {A : Type 0} (t : Bool) (xs ys : List A) → length (cond t xs ys) ≡ cond t (length xs) (length ys)
@@ -48,102 +49,115 @@ is-zero (suc n) = inr (λ (e : suc n ≡ 0). omega arith)
 
 -- ---- a unit row
 
-module _ (account : ℕ) (r : Constraint) (q : UnitRow) where
-  pub none-own : (q .account ≡ account → ⊥) → 0 ≡ length (ownLines account r (poolsOf r) q)
-  unfolding ownLines
-  none-own d = rw (ne-eqb _ _ d)
+module _ (unit : ℕ → UnitRow) (account : ℕ) (r : Constraint) (u : ℕ) where
+  miss : (keyOf unit u ≡ r .id → ⊥) → countIn unit account r u ≡ 0
+  unfolding countIn
+  miss d = keyed-miss (keyOf unit) (r .id) _ u d
 
-  pub each-own : {x : ℕ} → q .account ≡ account → x ≡ cond (eqb (r .mode) 1) 3 1 → x ≡ length (ownLines account r (poolsOf r) q)
-  unfolding ownLines unitLines
-  each-own e f = f ∙ rw (eq-eqb _ _ e) (sym (choice-length (eqb (r .mode) 1) _ _))
+  hit : keyOf unit u ≡ r .id → unit u .account ≡ account → countIn unit account r u ≡ eachOf r
+  unfolding countIn
+  hit e a = sym (keyed-hit (keyOf unit) (r .id) _ u e) ∙ rw (eq-eqb _ _ a)
 
--- ---- the unit rows of a constraint
+  other : (unit u .account ≡ account → ⊥) → countIn unit account r u ≡ 0
+  unfolding countIn keyed
+  other d = rw (ne-eqb _ _ d) (nothing (eqb (keyOf unit u) (r .id)))
+    where
+      nothing : (t : Bool) → _≡_ {A = ℕ} (cond t 0 0) 0
+      nothing true = refl
+      nothing false = refl
+
+  row-length : length (unitLinesAt unit account r (poolsOf r) u) ≡ countIn unit account r u
+  unfolding unitLinesAt ownLines unitLines countIn keyed eachOf
+  row-length =
+      choice-length (eqb (keyOf unit u) (r .id)) _ []
+      ∙ ap (λ (x : ℕ). cond (eqb (keyOf unit u) (r .id)) x 0)
+      (choice-length (eqb (unit u .account) account) _ [] ∙ ap (λ (x : ℕ). cond (eqb (unit u .account) account) x 0) (choice-length (eqb (r .mode) 1) _ _))
+
+-- ---- a constraint
 
 module _ (unit : ℕ → UnitRow) (m account : ℕ) (r : Constraint) where
-  -- how far the run is, and how many lines there are
-  pub record Counting (u x : ℕ) : Type 0 where
-    pub run : Run (keyOf unit) m (r .id) u
-    pub lines : x ≡ length (joined (unitLinesAt unit account r (poolsOf r)) u)
-    pub few : x ≤ u * 3
+  rows-length : length (joined (unitLinesAt unit account r (poolsOf r)) m) ≡ total (countIn unit account r) m
+  rows-length = joined-length (unitLinesAt unit account r (poolsOf r)) m ∙ total-same _ _ m (λ u l. row-length unit account r u)
 
-  pub counting-start : (u : ℕ) → Stands (keyOf unit) m (r .id) u → Counting u 0
-  counting-start u s =
-      record {
-        run = run-start _ m (r .id) u s;
-        lines = rw (joined-nothing (unitLinesAt unit account r (poolsOf r)) u (λ k h. other unit m account r (poolsOf r) k (λ (e : keyOf unit k ≡ r .id). omega (arith, s .under k h))));
-        few = omega arith;
-      }
-
-  module _ (u : ℕ) {x : ℕ} {q : UnitRow} (h : Counting u x) (j : u < m) (e : q ≡ unit u) where
-    pub counting-more : {y : ℕ} → q .constraint ≡ r .id → y ≡ length (ownLines account r (poolsOf r) q) → y ≤ 3 → Counting (u + 1) (x + y)
-    counting-more {y} k f g =
-        let row : y ≡ length (unitLinesAt unit account r (poolsOf r) u) = f ∙ ap length (sym (this unit m account r (poolsOf r) u e k)) in
-        let both = length-append (joined (unitLinesAt unit account r (poolsOf r)) u) (unitLinesAt unit account r (poolsOf r) u) in
-        record {
-          run = run-next _ m (r .id) u (h .run) j (rw e at k);
-          lines = rw (← joined-more (unitLinesAt unit account r (poolsOf r)) u) (omega (arith, h .lines, row, both));
-          few = omega (arith, h .few);
-        }
-
-  counted : (u x : ℕ) → Walked unit m → Counting u x → Past (keyOf unit) m (r .id) u → UnitsCounted unit m account r (record { next = u; lines = x })
-  counted u x w h a =
-      record {
-        past = a;
-        lines = rw (← joined-rest (unitLinesAt unit account r (poolsOf r)) u m (a .high) (λ k i j. other unit m account r (poolsOf r) k (λ (e : keyOf unit k ≡ r .id). omega (arith, a .over k i j)))) (h .lines);
-        few = omega (arith, h .few, a .high, w .few);
-      }
-
-  pub counting-stop : (u : ℕ) {x : ℕ} {q : UnitRow} → Counting u x → u < m → q ≡ unit u → Walked unit m → (q .constraint ≡ r .id → ⊥) → UnitsCounted unit m account r (record { next = u; lines = x })
-  counting-stop u {x} h j e w d = counted u x w h (run-stop _ m (r .id) u (w .keep) (h .run) j (rw e at d))
-
-  pub counting-done : (u : ℕ) {x : ℕ} → Counting u x → Walked unit m → m ≤ u → UnitsCounted unit m account r (record { next = u; lines = x })
-  counting-done u {x} h w k = counted u x w h (run-done _ m (r .id) u (h .run) (omega (arith, h .run .high)))
-
-  -- ---- a constraint
-
-  rest-length : (x : Residual) (o t : ℕ) → length (restLines r x o t) ≡ cond (eqb (r .mode) 1) 3 1
-  unfolding restLines
+  rest-length : (x : Residual) (o t : ℕ) → length (restLines r x o t) ≡ eachOf r
+  unfolding restLines eachOf
   rest-length x o t = choice-length (eqb (r .mode) 1) _ _
 
-  pub lines-counted : {x : Counted} {y : ℕ} → UnitsCounted unit m account r x → BareOf unit m r → y ≡ cond (eqb (r .mode) 1) 3 1 → y ≤ 3 → LinesCounted unit m account r (record { next = x .next; lines = x .lines + y })
+  single : r .mode ≡ 0 → 1 ≡ eachOf r
+  unfolding eachOf
+  single z = rw (ne-eqb (r .mode) 1 (λ (q : r .mode ≡ 1). omega arith))
+
+  con-length : BareOf unit m r → (o t : ℕ) → length (conLines unit m account r o t) ≡ total (countIn unit account r) m + eachOf r
   unfolding conLines
-  lines-counted {x} {y} h bare e l =
-      record { past = h .past; lines = λ o t. by o t; few = omega (arith, h .few) }
-    where
-      single : r .mode ≡ 0 → y ≡ 1
-      single z = e ∙ rw (ne-eqb (r .mode) 1 (λ (q : r .mode ≡ 1). omega arith))
-
-      nothing : r .mode ≡ 0 → x .lines ≡ 0
-      nothing z = h .lines ∙ rw (joined-nothing (unitLinesAt unit account r (poolsOf r)) m (λ k j. other unit m account r (poolsOf r) k (bare z k j)))
-
-      by : (o t : ℕ) → x .lines + y ≡ length (conLines unit m account r o t)
-      by o t =
-          ⊎-elim
-          (λ (z : r .mode ≡ 0). ap₂ _+_ (nothing z) (single z) ∙ rw (eq-eqb _ _ z))
-          (λ (d : r .mode ≡ 0 → ⊥). rw (ne-eqb _ _ d, length-append) (ap₂ _+_ (h .lines) (e ∙ sym (rest-length (residualOf r (poolsOf r)) o t))))
-          (is-zero (r .mode))
+  con-length bare o t =
+      ⊎-elim
+      (λ (z : r .mode ≡ 0). rw (eq-eqb _ _ z) (ap₂ _+_ (total-zero (countIn unit account r) m (λ u l. miss unit account r u (bare z u l))) (single z)))
+      (λ (d : r .mode ≡ 0 → ⊥). rw (ne-eqb _ _ d, length-append) (ap₂ _+_ rows-length (rest-length (residualOf r (poolsOf r)) o t)))
+      (is-zero (r .mode))
 
 -- ---- all constraints
 
-module _ (con : ℕ → Constraint) (unit : ℕ → UnitRow) (m account : ℕ) where
-  pub constraints-none : ConstraintsCounted con 0 unit m account 0
-  constraints-none = record { lines = λ entry own. rw (joined-none (conLinesAt entry con unit m account own)); few = omega arith }
+module _ (con : ℕ → Constraint) (n : ℕ) (unit : ℕ → UnitRow) (m account : ℕ) where
+  units-none : UnitsCounted con n unit account 0 0
+  units-none = record { lines = total-none _; few = omega arith }
 
-  pub constraints-more : (j : ℕ) {x : ℕ} {y : Counted} {r : Constraint} → ConstraintsCounted con j unit m account x → r ≡ con j → LinesCounted unit m account r y → ConstraintsCounted con (j + 1) unit m account (x + y .lines)
-  unfolding conLinesAt
-  constraints-more j {x} {y} h e c =
-      record {
-        lines = λ entry own. (
-            let both = length-append (joined (conLinesAt entry con unit m account own) j) (conLinesAt entry con unit m account own j) in
-            let row : y .lines ≡ length (conLinesAt entry con unit m account own j) = rw e at (c .lines (divisorOf (entryOf own) (con j)) (divisorOf entry (con j))) in
-            rw (← joined-more (conLinesAt entry con unit m account own) j) (omega (arith, h .lines entry own, row, both))
-            );
-        few = omega (arith, h .few, c .few);
-      }
+  pub met-start : MetAt con n unit m account 0 (record { cursor = 0; lines = 0 })
+  met-start = record { high = omega arith; under = λ v a b j l. omega arith; counted = units-none }
 
-  pub constraints-all : (j n : ℕ) {x : ℕ} → j ≤ n → n ≤ j → ConstraintsCounted con j unit m account x → ConstraintsCounted con n unit m account x
-  constraints-all j n a b h =
-      record { lines = λ entry own. h .lines entry own ∙ ap length (joined-all (conLinesAt entry con unit m account own) j n a b); few = omega (arith, h .few) }
+  units-skip : (u : ℕ) {x : ℕ} {q : UnitRow} → UnitsCounted con n unit account u x → q ≡ unit u → (q .account ≡ account → ⊥) → UnitsCounted con n unit account (u + 1) x
+  unfolding rowCount
+  units-skip u {x} h e d =
+      let row = total-zero (λ j. countIn unit account (con j) u) n (λ j l. other unit account (con j) u (rw e at d)) in
+      let more = total-more (rowCount con n unit account) u (h .lines) row in
+      record { lines = omega (arith, more); few = omega (arith, h .few) }
+
+  pub units-all : (u k : ℕ) {x : ℕ} → u ≤ k → k ≤ u → UnitsCounted con n unit account u x → UnitsCounted con n unit account k x
+  units-all u k a b h = record { lines = total-all _ u k (h .lines) (omega arith); few = omega (arith, h .few) }
+
+  module _ (h : Countable con n unit m) where
+    -- a key's place among the ids is that of the constraint that it names
+    pub named-at : (u c : ℕ) → u < m → Sought (idOf con) n (keyOf unit u) c → (c < n) × (con c .id ≡ keyOf unit u)
+    named-at u c l s =
+        let p = h .names .place u l in
+        let w = h .names .within u l in
+        let e = h .names .same u l in
+        let a : c ≤ p = ⊎-elim (λ (b : p < c). omega (arith, s .under p b, e)) (λ (b : c ≤ p). b) (lt-or-ge p c) in
+        let b : c < n = omega arith in
+        (b, ⊎-elim (λ (q : c ≡ p). rw q e) (λ (q : c < p). omega (arith, h .rise .rise c p q w, s .over b, e)) (eq-or-lt-of-le a))
+
+    units-own : (u c : ℕ) {x y : ℕ} {q : UnitRow} {r : Constraint} → u < m → UnitsCounted con n unit account u x → q ≡ unit u → q .account ≡ account → Sought (idOf con) n (keyOf unit u) c → r ≡ con c → y ≡ eachOf r → y ≤ 3 → UnitsCounted con n unit account (u + 1) (x + y)
+    unfolding rowCount
+    units-own u c {x} {y} l k e a s f g z =
+        let at-c = named-at u c l s in
+        let apart : (j : ℕ) → j < n → (j ≡ c → ⊥) → countIn unit account (con j) u ≡ 0 = λ j b d. miss unit account (con j) u (λ (q : keyOf unit u ≡ con j .id). d (rises-once (idOf con) n (h .rise) j c b (at-c .0) (sym q ∙ sym (at-c .1)))) in
+        let row : y ≡ rowCount con n unit account u = g ∙ ap eachOf f ∙ sym (hit unit account (con c) u (sym (at-c .1)) (rw e at a)) ∙ sym (total-only (λ j. countIn unit account (con j) u) c n (at-c .0) apart) in
+        record { lines = total-more (rowCount con n unit account) u (k .lines) row; few = omega (arith, k .few) }
+
+    pub met-skip : (u : ℕ) {x : Met} {q : UnitRow} → MetAt con n unit m account u x → q ≡ unit u → (q .account ≡ account → ⊥) → MetAt con n unit m account (u + 1) x
+    met-skip u k e d = record { high = k .high; under = λ v a b. k .under v (omega arith) b; counted = units-skip u (k .counted) e d }
+
+    pub met-under : (u : ℕ) {x : Met} {q : UnitRow} → u < m → MetAt con n unit m account u x → q ≡ unit u → Under (idOf con) (x .cursor) (q .constraint)
+    met-under u l k e = rw e (k .under u (omega arith) l)
+
+    pub met-own : (u c : ℕ) {x : Met} {y : ℕ} {q : UnitRow} {r : Constraint} → u < m → MetAt con n unit m account u x → q ≡ unit u → q .account ≡ account → Sought (idOf con) n (q .constraint) c → r ≡ con c → y ≡ eachOf r → y ≤ 3 → MetAt con n unit m account (u + 1) (record { cursor = c; lines = x .lines + y })
+    met-own u c l k e a s f g z =
+        let t : Sought (idOf con) n (keyOf unit u) c = rw e at s in
+        record {
+          high = t .high;
+          under = λ v b d. under-later (idOf con) c (keyOf unit u) (keyOf unit v) (t .under) (h .walked .keep .keep u v (omega arith) d);
+          counted = units-own u c l (k .counted) e a t f g z;
+        }
+
+    pub constraints-counted : {x y : ℕ} → UnitsCounted con n unit account m x → y ≡ total (λ j. eachOf (con j)) n → y ≤ 192 → ConstraintsCounted con n unit m account (x + y)
+    unfolding rowCount conLinesAt
+    constraints-counted {x} {y} k e l =
+        record {
+          lines = λ entry own. sym (joined-length (conLinesAt entry con unit m account own) n
+              ∙ total-same _ (λ j. total (countIn unit account (con j)) m + eachOf (con j)) n (λ j b. con-length unit m account (con j) (h .bare j b) _ _)
+              ∙ total-plus (λ j. total (countIn unit account (con j)) m) (λ j. eachOf (con j)) n
+              ∙ ap₂ _+_ (total-swap (λ j u. countIn unit account (con j) u) m n ∙ sym (k .lines)) (sym e));
+          few = omega (arith, k .few, h .walked .few);
+        }
 
 -- ---- a contract, and all
 

@@ -37,11 +37,11 @@ module _ (account : ℕ) (r : Constraint) (p : Pools) (q : UnitRow) {l : List �
 -- ---- a run of rows
 
 module _ (unit : ℕ → UnitRow) (m account : ℕ) (r : Constraint) (p : Pools) where
-  pub other : (u : ℕ) → (keyOf unit u ≡ r .id → ⊥) → unitLinesAt unit account r p u ≡ []
+  other : (u : ℕ) → (keyOf unit u ≡ r .id → ⊥) → unitLinesAt unit account r p u ≡ []
   unfolding unitLinesAt
   other u d = rw (ne-eqb _ _ d)
 
-  pub this : (u : ℕ) {q : UnitRow} → q ≡ unit u → q .constraint ≡ r .id → unitLinesAt unit account r p u ≡ ownLines account r p q
+  this : (u : ℕ) {q : UnitRow} → q ≡ unit u → q .constraint ≡ r .id → unitLinesAt unit account r p u ≡ ownLines account r p q
   unfolding unitLinesAt
   this u e k = rw (eq-eqb _ _ (rw e at k), e)
 

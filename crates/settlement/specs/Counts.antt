@@ -1,9 +1,12 @@
 -- How many lines an account has. Only contracts of inner functions speak of these; the lines are those of the walk (Walks.antt).
 use Prim.Native.Nat.{ℕ, _*_, _≤_, _<_}
 use mathlib.Core.Path.{_≡_}
+use mathlib.Core.Bool.{cond}
+use lib.Dec.{eqb}
 use lib.ListN.{length}
 use Rattle.sections.specs.Order.{Rises}
-use Rattle.sections.specs.Walk.{Past, Names}
+use Rattle.sections.specs.Walk.{Under, Names}
+use Rattle.sections.specs.Total.{total, keyed}
 use Rattle.records.specs.declared.rows.Constraint.{Constraint}
 use Rattle.records.specs.declared.rows.UnitRow.{UnitRow}
 use Rattle.records.specs.declared.rows.Entry.{Entry}
@@ -11,24 +14,28 @@ use Rattle.records.specs.declared.rows.Contract.{Contract}
 use Rattle.factors.specs.Naming.{idOf, keyOf}
 use Rattle.factors.specs.Runs.{Walked}
 use Rattle.totals.specs.declared.entries.Totals.{Totals}
-use Rattle.amounts.specs.Pools.{poolsOf}
 use Rattle.accounts.specs.Rows.{joined}
 use Rattle.book.specs.Book.{Book}
 use Rattle.settlement.specs.Settle.{regionLines}
-use Rattle.settlement.specs.Walks.{unitLinesAt, conLines, conLinesAt, contractLinesAt, bookLines}
-use Rattle.settlement.specs.declared.count.Counted.{Counted}
+use Rattle.settlement.specs.Walks.{conLinesAt, contractLinesAt, bookLines}
+use Rattle.settlement.specs.declared.count.Met.{Met}
 
--- the account's unit lines of constraint r, and the cursor stands behind its unit rows
-pub record UnitsCounted (unit : ℕ → UnitRow) (m account : ℕ) (r : Constraint) (x : Counted) : Type 0 where
-  pub past : Past (keyOf unit) m (r .id) (x .next)
-  pub lines : x .lines ≡ length (joined (unitLinesAt unit account r (poolsOf r)) m)
-  pub few : x .lines ≤ 1800
+-- how many lines a unit row of the constraint has, and how many the constraint besides
+unfoldable pub eachOf : Constraint → ℕ
+eachOf r = cond (eqb (r .mode) 1) 3 1
 
--- all its lines, whatever the energies o and t
-pub record LinesCounted (unit : ℕ → UnitRow) (m account : ℕ) (r : Constraint) (x : Counted) : Type 0 where
-  pub past : Past (keyOf unit) m (r .id) (x .next)
-  pub lines : (o t : ℕ) → x .lines ≡ length (conLines unit m account r o t)
-  pub few : x .lines ≤ 1803
+-- how many lines unit row u has of constraint r, where it names it and is the account's
+unfoldable pub countIn : (ℕ → UnitRow) → ℕ → Constraint → ℕ → ℕ
+countIn unit account r u = keyed (keyOf unit) (r .id) (λ v. cond (eqb (unit v .account) account) (eachOf r) 0) u
+
+-- and of all n constraints, of which it names one
+unfoldable pub rowCount : (ℕ → Constraint) → ℕ → (ℕ → UnitRow) → ℕ → ℕ → ℕ
+rowCount con n unit account u = total (λ j. countIn unit account (con j) u) n
+
+-- the lines of the first m unit rows
+pub record UnitsCounted (con : ℕ → Constraint) (n : ℕ) (unit : ℕ → UnitRow) (account m x : ℕ) : Type 0 where
+  pub lines : x ≡ total (rowCount con n unit account) m
+  pub few : x ≤ m * 3
 
 -- no unit row names a constraint of mode 0
 abbrev pub BareOf : (ℕ → UnitRow) → ℕ → Constraint → Type 0
@@ -42,10 +49,16 @@ pub record Countable (con : ℕ → Constraint) (n : ℕ) (unit : ℕ → UnitRo
   pub names : Names (keyOf unit) m (idOf con) n
   pub bare : (j : ℕ) → j < n → BareOf unit m (con j)
 
+-- the lines of the first u unit rows are met, and no id before the cursor is as large as a later row's key
+pub record MetAt (con : ℕ → Constraint) (n : ℕ) (unit : ℕ → UnitRow) (m account u : ℕ) (x : Met) : Type 0 where
+  pub high : x .cursor ≤ n
+  pub under : (v : ℕ) → u ≤ v → v < m → Under (idOf con) (x .cursor) (keyOf unit v)
+  pub counted : UnitsCounted con n unit account u (x .lines)
+
 -- the lines of the first n constraints, whatever the energies
 pub record ConstraintsCounted (con : ℕ → Constraint) (n : ℕ) (unit : ℕ → UnitRow) (m account x : ℕ) : Type 0 where
   pub lines : (entry : ℕ → Entry) (own : Totals) → x ≡ length (joined (conLinesAt entry con unit m account own) n)
-  pub few : x ≤ n * 1803
+  pub few : x ≤ 1992
 
 pub record ContractCounted (k : Contract) (x : ℕ) : Type 0 where
   pub lines : (entry own : ℕ → Entry) → x ≡ length (joined (regionLines entry own k) 5)

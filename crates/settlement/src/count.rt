@@ -1,79 +1,80 @@
 // How many lines an account has, without making one: its unit rows are told by their accounts, and the mode says how many lines each has.
 ghost use mathlib.Core.Path.{_≡_};
 ghost use mathlib.Core.Bool.{cond};
-ghost use Prim.Native.Nat.{_+_, _*_, _≤_};
+ghost use Prim.Native.Nat.{_+_, _*_, _≤_, _<_};
 ghost use lib.Dec.{eqb};
 ghost use lib.ListN.{length};
-ghost use Rattle.sections.specs.Walk.{Stands};
+ghost use Rattle.sections.specs.Total.{total};
 ghost use Rattle.records.specs.Rows.{constraintRow, unitRow, contractRow};
-ghost use Rattle.factors.specs.Naming.{keyOf};
-ghost use Rattle.factors.specs.Runs.{Walked};
 ghost use Rattle.book.specs.Book.{bookIn};
 ghost use Rattle.book.specs.Facts.{Laid};
-ghost use Rattle.amounts.specs.Pools.{poolsOf};
-ghost use Rattle.settlement.specs.Walks.{ownLines};
-ghost use Rattle.settlement.specs.Counts.{UnitsCounted, LinesCounted, BareOf, Countable, ConstraintsCounted, ContractCounted, ContractsCounted, BookCounted};
+ghost use Rattle.settlement.specs.Counts.{eachOf, UnitsCounted, Countable, MetAt, ConstraintsCounted, ContractCounted, ContractsCounted, BookCounted};
 use book::header::Header;
+use factors::naming;
 use records::rows;
 use records::rows::Constraint;
 use records::rows::Contract;
-use records::rows::UnitRow;
 
 // How many lines a unit row of the constraint has, and how many its residual.
 fn lines_each(r: Constraint) -> usize
-    ensures { λ x. ⌜ (x ≡ cond (eqb (r .mode) 1) 3 1) × (x ≤ 3) ⌝ }
+    ensures { λ x. ⌜ (x ≡ eachOf r) × (x ≤ 3) ⌝ }
 {
     if r.mode == 1 { 3 } else { 1 }
 }
 
-fn own_count(r: Constraint, q: UnitRow, account: u32) -> usize
-    ensures { λ x. ⌜ (x ≡ length (ownLines account r (poolsOf r) q)) × (x ≤ 3) ⌝ }
-{
-    if q.account != account {
-        return 0;
-    }
-    lines_each(r)
-}
-
-// Where a walk over unit rows stands, and how many lines it has met.
-pub struct Counted {
-    pub next: usize,
+// Where a search among the constraints stands, and how many lines there are so far.
+pub struct Met {
+    pub cursor: usize,
     pub lines: usize,
 }
 
-// The account's unit lines of one constraint, from the first of its unit rows on.
-fn unit_run(units: &[u8], m: usize, from: usize, r: Constraint, account: u32) -> Counted
-    requires { ⌜ m * 20 ≤ length (now units) ⌝ }
-    requires { ⌜ Walked (unitRow (now units)) m ⌝ }
-    requires { ⌜ Stands (keyOf (unitRow (now units))) m (r .id) from ⌝ }
-    ensures { λ x. ⌜ UnitsCounted (unitRow (now (units .entry))) m account r x ⌝ }
+// Unit row u with its lines, where the account owns it. The constraint that it names is looked for from the last one on, since rows and
+// constraints stand in the same order.
+fn with_row(cons: &[u8], n: usize, units: &[u8], m: usize, u: usize, met: Met, account: u32) -> Met
+    requires { ⌜ (n * 40 ≤ length (now cons)) × ((m * 20 ≤ length (now units)) × (u < m)) ⌝ }
+    requires { ⌜ Countable (constraintRow (now cons)) n (unitRow (now units)) m ⌝ }
+    requires { ⌜ MetAt (constraintRow (now cons)) n (unitRow (now units)) m account u met ⌝ }
+    ensures { λ x. ⌜ MetAt (constraintRow (now (cons .entry))) n (unitRow (now (units .entry))) m account (u + 1) x ⌝ }
 {
-    let mut u = from;
-    let mut lines = 0;
-    while u < m {
-        let q = rows::unit_row(units, u);
-        if q.constraint != r.id {
-            return Counted { next: u, lines };
-        }
-        lines += own_count(r, q, account);
-        u += 1;
+    let q = rows::unit_row(units, u);
+    if q.account != account {
+        return met;
     }
-    Counted { next: u, lines }
+    let cursor = naming::seek(cons, n, met.cursor, q.constraint);
+    let lines = met.lines + lines_each(rows::constraint_row(cons, cursor));
+    Met { cursor, lines }
 }
 
-// All lines of one constraint. One of mode 0 has no unit rows, and one line.
-fn constraint_count(units: &[u8], m: usize, from: usize, r: Constraint, account: u32) -> Counted
-    requires { ⌜ m * 20 ≤ length (now units) ⌝ }
-    requires { ⌜ Walked (unitRow (now units)) m ⌝ }
-    requires { ⌜ Stands (keyOf (unitRow (now units))) m (r .id) from ⌝ }
-    requires { ⌜ BareOf (unitRow (now units)) m r ⌝ }
-    ensures { λ x. ⌜ LinesCounted (unitRow (now (units .entry))) m account r x ⌝ }
+// The lines of the account's unit rows.
+fn unit_lines(cons: &[u8], n: usize, units: &[u8], m: usize, account: u32) -> usize
+    requires { ⌜ (n * 40 ≤ length (now cons)) × (m * 20 ≤ length (now units)) ⌝ }
+    requires { ⌜ Countable (constraintRow (now cons)) n (unitRow (now units)) m ⌝ }
+    ensures { λ x. ⌜ UnitsCounted (constraintRow (now (cons .entry))) n (unitRow (now (units .entry))) account m x ⌝ }
 {
-    let run = unit_run(units, m, from, r, account);
-    Counted {
-        next: run.next,
-        lines: run.lines + lines_each(r),
+    let mut met = Met {
+        cursor: 0,
+        lines: 0,
+    };
+    let mut u = 0;
+    while u < m {
+        met = with_row(cons, n, units, m, u, met, account);
+        u += 1;
     }
+    met.lines
+}
+
+// The lines that the n constraints have besides: a residual's, or the one of mode 0.
+fn other_lines(cons: &[u8], n: usize) -> usize
+    requires { ⌜ (n * 40 ≤ length (now cons)) × (n ≤ 64) ⌝ }
+    ensures { λ x. ⌜ (x ≡ total (λ j. eachOf (constraintRow (now (cons .entry)) j)) n) × (x ≤ 192) ⌝ }
+{
+    let mut lines = 0;
+    let mut j = 0;
+    while j < n {
+        lines += lines_each(rows::constraint_row(cons, j));
+        j += 1;
+    }
+    lines
 }
 
 // The lines of the n constraints.
@@ -82,17 +83,7 @@ fn constraints(cons: &[u8], n: usize, units: &[u8], m: usize, account: u32) -> u
     requires { ⌜ Countable (constraintRow (now cons)) n (unitRow (now units)) m ⌝ }
     ensures { λ x. ⌜ ConstraintsCounted (constraintRow (now (cons .entry))) n (unitRow (now (units .entry))) m account x ⌝ }
 {
-    let mut lines = 0;
-    let mut u = 0;
-    let mut j = 0;
-    while j < n {
-        let r = rows::constraint_row(cons, j);
-        let out = constraint_count(units, m, u, r, account);
-        lines += out.lines;
-        u = out.next;
-        j += 1;
-    }
-    lines
+    unit_lines(cons, n, units, m, account) + other_lines(cons, n)
 }
 
 // Two lines in a region that a contract benefits.
