@@ -2,7 +2,7 @@
 use Prim.Native.Nat.{ℕ, _+_, _*_, _≤_, _<_}
 use mathlib.Core.Path.{_≡_, refl, sym, ap, subst, _∙_}
 use Rattle.records.specs.declared.rows.Entry.{Entry}
-use mathlib.Core.Bool.{Bool, true, false, not, _&&_}
+use mathlib.Core.Bool.{Bool, true, false, not, _&&_, _||_}
 use mathlib.Core.List.{List}
 use borrow.Author.Tests.{ltb-true, ltb-false, le-ltb}
 use lib.Dec.{eqb, ltb}
@@ -110,22 +110,22 @@ module _ (B : Book) (account : ℕ) (p : Promise B) {held : Held} (f : HeldIs (B
         walk = record { ready = ready-of B p (held .own) w; payable = payable-of B p (held .own) w };
       }
 
-  -- an energy row names it
-  pub owned-held : held .any ≡ true → Owned B account (held .own)
-  owned-held t = own-of (sym (held-unknown B f refl) ∙ rw t (last-false (not (not (none (keep (λ r. eqb (r .account) account) (rowsOf (B .unit) (B .header .units))))))))
-    where
-      last-false : (a : Bool) → (a && false) ≡ false
-      last-false true = refl
-      last-false false = refl
+  -- where it is known whether a row names it
+  module _ {known : Bool} (k : known ≡ (held .any || not (none (keep (λ r. eqb (r .account) account) (rowsOf (B .unit) (B .header .units)))))) where
+    unknown-is : unknown (rowsOfAccount B account) ≡ not known
+    unknown-is = sym (held-unknown B f refl) ∙ neither (held .any) _ ∙ ap not (sym k)
+      where
+        neither : (a b : Bool) → (not b && not a) ≡ not (a || b)
+        neither true true = refl
+        neither true false = refl
+        neither false true = refl
+        neither false false = refl
 
-  module _ {named : Bool} (u : named ≡ not (none (keep (λ r. eqb (r .account) account) (rowsOf (B .unit) (B .header .units))))) (t : held .any ≡ false) where
-    -- a unit row does
-    pub owned-named : not named ≡ false → Owned B account (held .own)
-    owned-named n = own-of (sym (held-unknown B f u) ∙ rw n)
+    pub owned-known : not known ≡ false → Owned B account (held .own)
+    owned-known t = own-of (unknown-is ∙ t)
 
-    -- no row does
-    pub end-11 : (l : List ℕ) → not named ≡ true → Lent (settled account (publicOf B) (rowsOfAccount B account)) l (written.Refused 11 0) l
-    end-11 l n = lent-refused 11 0 _ l (settled-unknown account (publicOf B) (rowsOfAccount B account) (sym (held-unknown B f u) ∙ rw (n, t)))
+    pub end-11 : (l : List ℕ) → not known ≡ true → Lent (settled account (publicOf B) (rowsOfAccount B account)) l (written.Refused 11 0) l
+    end-11 l t = lent-refused 11 0 _ l (settled-unknown account (publicOf B) (rowsOfAccount B account) (unknown-is ∙ t))
 
 -- ---- the book's verdict
 

@@ -5,13 +5,16 @@ mod count; // count.rt: how many they are
 mod limit; // limit.rt: whether one would pass the limit
 
 ghost use mathlib.Core.Path.{_≡_};
-ghost use Prim.Native.Nat.{_+_, _*_};
+ghost use mathlib.Core.Bool.{not, _||_};
+ghost use Prim.Native.Nat.{_+_, _*_, _≤_};
 ghost use lib.ListN.{length};
-ghost use lib.Dec.{ltb};
+ghost use lib.Dec.{eqb, ltb};
 ghost use Rattle.ground.specs.Put.{Wrote};
+ghost use Rattle.records.specs.Rows.{unitRow};
 ghost use Rattle.book.specs.Book.{bookIn};
 ghost use Rattle.book.specs.Facts.{Few, Laid};
 ghost use Rattle.book.specs.Accepted.{Promise};
+ghost use Rattle.accounts.specs.Rows.{rowsOf, keep, none};
 ghost use Rattle.accounts.specs.Account.{publicOf, rowsOfAccount};
 ghost use Rattle.statement.specs.Lent.{Lent};
 ghost use Rattle.totals.specs.declared.entries.Totals.{Totals};
@@ -81,7 +84,18 @@ fn test_and_write(book: &[u8], h: Header, own: Totals, account: u32, buffer: &mu
     Written::Length(write(buffer, book, h, own, account))
 }
 
-// The statement of an accepted book, for an account that one of its rows names. The unit rows are asked where no energy row names it.
+// Whether a row names the account, where it is known whether an energy row does. The unit rows are asked only where none does.
+fn is_known(units: &[u8], m: usize, held: bool, account: u32) -> bool
+    requires { ⌜ m * 20 ≤ length (now units) ⌝ }
+    ensures { λ b. ⌜ b ≡ (held || not (none (keep (λ r. eqb (r .account) account) (rowsOf (unitRow (now (units .entry))) m)))) ⌝ }
+{
+    if held {
+        return true;
+    }
+    accounts::has_units(units, m, account)
+}
+
+// The statement of an accepted book, for an account that one of its rows names.
 fn settle(book: &[u8], h: Header, account: u32, buffer: &mut [u8]) -> Written
     requires { ⌜ Laid (now book) h ⌝ }
     requires { ⌜ Promise (bookIn (now book) h) ⌝ }
@@ -91,10 +105,7 @@ fn settle(book: &[u8], h: Header, account: u32, buffer: &mut [u8]) -> Written
     let energies = h.energies_at();
     let held = accounts::own_energy(&book[energies..], h.energies as usize, account);
     let own = held.own;
-    if held.any {
-        return test_and_write(book, h, own, account, buffer);
-    }
-    if !accounts::has_units(&book[units..], h.units as usize, account) {
+    if !is_known(&book[units..], h.units as usize, held.any, account) {
         return Written::Refused(11, 0);
     }
     test_and_write(book, h, own, account, buffer)

@@ -1,7 +1,7 @@
 -- `settlement::settle` meets its contract. No row names the account, or its own energy is what its lines rest on. Assumes nothing.
 use Rattle.book.specs.Book.{bookIn}
 use Rattle.book.proofs.Room.{energies-room}
-use Rattle.settlement.proofs.Ends.{owned-held, owned-named, end-11}
+use Rattle.settlement.proofs.Ends.{owned-known, end-11}
 use borrow.Author.Needs.{needs}
 use Rattle.settlement.proofs.settle.Statement.{statement}
 use Rattle.settlement.proofs.settle.Tie as tie
@@ -27,41 +27,32 @@ cast-own-energy c = search needs
 own-energy-requires : tie.Need-own-energy-requires
 own-energy-requires c κs = ((energies-room _ _ (c .before .before .before .before .before .before .pre .0) _ (c .before .before .energies-at .ensures), c .before .before .before .before .before .before .pre .0 .few .energies), (rw (c .before .before .energies-at .ensures) (c .before .before .before .before .before .before .pre .1 .fields .energies), rw (c .before .before .energies-at .ensures) (record { keep = c .before .before .before .before .before .before .pre .1 .ordered .energies .first })))
 
+sub-is-known : tie.Need-sub-is-known
+sub-is-known c = search needs
+
+part-is-known-start : tie.Need-part-is-known-start
+part-is-known-start c = search needs
+
+part-is-known-end : tie.Need-part-is-known-end
+part-is-known-end c = search needs
+
+cast-is-known : tie.Need-cast-is-known
+cast-is-known c = search needs
+
+is-known-requires : tie.Need-is-known-requires
+is-known-requires c κs = search needs
+
+returns : tie.Need-returns
+returns c = end-11 (bookIn (c .before .before .before .before .before .before .before .before .before .before .before .before .args .book .now) (c .before .before .before .before .before .before .before .before .before .before .before .before .args .h)) _ (c .before .before .before .before .before .before .before .before .before .before .before .before .pre .1) (rw (c .before .before .before .before .before .before .before .before .energies-at .ensures) at (c .before .before .before .before .before .own-energy .ensures)) (rw (c .before .before .before .before .before .before .before .before .before .units-at .ensures) at (c .before .is-known .ensures)) _ (c .if1 .taken)
+
 test-and-write-requires : tie.Need-test-and-write-requires
-test-and-write-requires c κs = (c .before .before .before .before .before .before .before .before .before .before .pre .0, (c .before .before .before .before .before .before .before .before .before .before .pre .1, owned-held (bookIn (c .before .before .before .before .before .before .before .before .before .before .args .book .now) (c .before .before .before .before .before .before .before .before .before .before .args .h)) _ (c .before .before .before .before .before .before .before .before .before .before .pre .1) (rw (c .before .before .before .before .before .before .energies-at .ensures) at (c .before .before .before .own-energy .ensures)) (c .before .if1 .taken)))
+test-and-write-requires c κs = (c .before .before .before .before .before .before .before .before .before .before .before .before .before .pre .0, (c .before .before .before .before .before .before .before .before .before .before .before .before .before .pre .1, owned-known (bookIn (c .before .before .before .before .before .before .before .before .before .before .before .before .before .args .book .now) (c .before .before .before .before .before .before .before .before .before .before .before .before .before .args .h)) _ (c .before .before .before .before .before .before .before .before .before .before .before .before .before .pre .1) (rw (c .before .before .before .before .before .before .before .before .before .energies-at .ensures) at (c .before .before .before .before .before .before .own-energy .ensures)) (rw (c .before .before .before .before .before .before .before .before .before .before .units-at .ensures) at (c .before .before .is-known .ensures)) (c .before .if1 .left)))
 
 same-length : tie.Need-same-length
 same-length c = search needs
 
-returns : tie.Need-returns
-returns c = search needs
-
-sub-has-units : tie.Need-sub-has-units
-sub-has-units c = search needs
-
-part-has-units-start : tie.Need-part-has-units-start
-part-has-units-start c = search needs
-
-part-has-units-end : tie.Need-part-has-units-end
-part-has-units-end c = search needs
-
-cast-has-units : tie.Need-cast-has-units
-cast-has-units c = search needs
-
-has-units-requires : tie.Need-has-units-requires
-has-units-requires c κs = search needs
-
 returns-2 : tie.Need-returns-2
-returns-2 c = end-11 (bookIn (c .before .before .before .before .before .before .before .before .before .before .before .before .before .args .book .now) (c .before .before .before .before .before .before .before .before .before .before .before .before .before .args .h)) _ (c .before .before .before .before .before .before .before .before .before .before .before .before .before .pre .1) (rw (c .before .before .before .before .before .before .before .before .before .energies-at .ensures) at (c .before .before .before .before .before .before .own-energy .ensures)) (rw (c .before .before .before .before .before .before .before .before .before .before .units-at .ensures) at (c .before .has-units .ensures)) (c .before .before .before .before .if1 .left) _ (c .if2 .taken)
-
-test-and-write-requires-2 : tie.Need-test-and-write-requires-2
-test-and-write-requires-2 c κs = (c .before .before .before .before .before .before .before .before .before .before .before .before .before .before .pre .0, (c .before .before .before .before .before .before .before .before .before .before .before .before .before .before .pre .1, owned-named (bookIn (c .before .before .before .before .before .before .before .before .before .before .before .before .before .before .args .book .now) (c .before .before .before .before .before .before .before .before .before .before .before .before .before .before .args .h)) _ (c .before .before .before .before .before .before .before .before .before .before .before .before .before .before .pre .1) (rw (c .before .before .before .before .before .before .before .before .before .before .energies-at .ensures) at (c .before .before .before .before .before .before .before .own-energy .ensures)) (rw (c .before .before .before .before .before .before .before .before .before .before .before .units-at .ensures) at (c .before .before .has-units .ensures)) (c .before .before .before .before .before .if1 .left) (c .before .if2 .left)))
-
-same-length-2 : tie.Need-same-length-2
-same-length-2 c = search needs
-
-returns-3 : tie.Need-returns-3
-returns-3 c = search needs
+returns-2 c = search needs
 
 pub settle-spec : {M : Type 1} → statement M
 settle-spec =
@@ -74,15 +65,12 @@ settle-spec =
     part-own-energy-end
     cast-own-energy
     own-energy-requires
+    sub-is-known
+    part-is-known-start
+    part-is-known-end
+    cast-is-known
+    is-known-requires
+    returns
     test-and-write-requires
     same-length
-    returns
-    sub-has-units
-    part-has-units-start
-    part-has-units-end
-    cast-has-units
-    has-units-requires
-    returns-2
-    test-and-write-requires-2
-    same-length-2
-    returns-3)
+    returns-2)
