@@ -42,7 +42,7 @@ pub data-in : (r : Constraint) {m : Mode} {p s u : ℕ} → ConstraintRule r →
 data-in r h e f = rw (sym e ∙ f) at (data-of r h)
 
 -- a rounded 120th of 6,000,000,000,000
-pub fpp-small : (n : ℕ) → n ≤ 6000000000000 → roundN n 120 ≤ 50000000000
+fpp-small : (n : ℕ) → n ≤ 6000000000000 → roundN n 120 ≤ 50000000000
 fpp-small n l = omega (arith, half-below n 120 (omega arith))
 
 pub pools-small : (r : Constraint) → ConstraintRule r → SmallPools (poolsOf r)

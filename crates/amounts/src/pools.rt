@@ -31,7 +31,7 @@ pub struct Halves {
 }
 
 // The FPP pool of a price and a response.
-pub fn fpp_pool(price: u32, response: u32) -> u64
+fn fpp_pool(price: u32, response: u32) -> u64
     ensures { λ x. ⌜ x ≡ roundN (price * response) 120 ⌝ }
 {
     ((price as u64) * (response as u64) + 60) / 120

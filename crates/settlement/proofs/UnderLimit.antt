@@ -1,5 +1,5 @@
 -- 12: where no pool passes the limit, no line does. Assumes nothing.
-use Prim.Native.Nat.{ℕ, _+_, _*_}
+use Prim.Native.Nat.{ℕ, _+_}
 use mathlib.Core.Path.{_≡_, refl, sym, _∙_}
 use mathlib.Core.Bool.{Bool, false, _||_}
 use mathlib.Core.List.{List}
@@ -13,7 +13,7 @@ use Rattle.records.specs.Facts.{ConstraintRule}
 use Rattle.records.specs.declared.rows.Constraint.{Constraint}
 use Rattle.totals.specs.declared.entries.Totals.{Totals}
 use Rattle.amounts.specs.Pools.{poolsOf}
-use Rattle.amounts.proofs.Sizes.{fpp-small, pools-small, residual-small, halves-small}
+use Rattle.amounts.proofs.Sizes.{pools-small, residual-small, halves-small}
 use Rattle.book.specs.Book.{Book, bookIn}
 use Rattle.book.specs.Header.{contractsFrom}
 use Rattle.book.specs.declared.header.Header.{Header}
@@ -46,7 +46,7 @@ book-over b h k e f g = rw (f, g, e)
 
 constraint-under : (r : Constraint) → ConstraintRule r → constraintOver r ≡ false
 unfolding constraintOver
-constraint-under r h = rw (le-ltb _ _ (h .cost), le-ltb _ _ (fpp-small (r .price * r .rcr) (h .terms .product)))
+constraint-under r h = rw (le-ltb _ _ (h .cost), le-ltb _ _ (pools-small r h .fpp))
 
 module _ (B : Book) (p : Promise B) where
   book-under : bookOver B ≡ false

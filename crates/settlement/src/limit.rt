@@ -1,12 +1,14 @@
 // 12: whether a line would pass 50,000,000,000 either way. A line is a share of a pool and is at most the pool, so it is the pools that are
 // looked at, before the first line is made.
 ghost use mathlib.Core.Path.{_≡_};
-ghost use Prim.Native.Nat.{_*_, _≤_};
+ghost use Prim.Native.Nat.{ℕ, _*_, _≤_, _<_};
 ghost use lib.ListN.{length};
 ghost use Rattle.sections.specs.Search.{some};
 ghost use Rattle.records.specs.Rows.{constraintRow, contractRow};
+ghost use Rattle.records.specs.Facts.{ConstraintRule};
 ghost use Rattle.book.specs.Book.{bookIn};
 ghost use Rattle.book.specs.Facts.{Laid};
+ghost use Rattle.book.specs.Accepted.{Promise};
 ghost use Rattle.settlement.specs.Limits.{constraintOver, contractOver, bookOver};
 use amounts::pools;
 use book::header::Header;
@@ -15,13 +17,15 @@ use records::rows::Constraint;
 
 // The used and the unused pool are parts of the cost.
 fn constraint_over(r: Constraint) -> bool
+    requires { ⌜ ConstraintRule r ⌝ }
     ensures { λ b. ⌜ b ≡ constraintOver r ⌝ }
 {
-    (50000000000 < r.cost) | (50000000000 < pools::fpp_pool(r.price, r.rcr))
+    (50000000000 < r.cost) | (50000000000 < pools::pools_of(r).fpp)
 }
 
 fn constraints(cons: &[u8], n: usize) -> bool
     requires { ⌜ n * 40 ≤ length (now cons) ⌝ }
+    requires { ⌜ ((j : ℕ) → j < n → ConstraintRule (constraintRow (now cons) j)) ⌝ }
     ensures { λ b. ⌜ b ≡ some (λ j. constraintOver (constraintRow (now (cons .entry)) j)) n ⌝ }
 {
     let mut over = false;
@@ -49,6 +53,7 @@ fn contracts(contracts: &[u8], n: usize) -> bool
 // Whether a pool of the book passes the limit.
 pub(crate) fn passed(book: &[u8], h: Header) -> bool
     requires { ⌜ Laid (now book) h ⌝ }
+    requires { ⌜ Promise (bookIn (now book) h) ⌝ }
     ensures { λ b. ⌜ b ≡ bookOver (bookIn (now (book .entry)) h) ⌝ }
 {
     let paid = h.contracts_at();

@@ -4,12 +4,12 @@ use Rattle.settlement.specs.Limits.{constraintOver}
 use Rattle.settlement.proofs.limit.constraint_over.Statement.{statement}
 use Rattle.settlement.proofs.limit.constraint_over.Tie as tie
 
-fpp-pool-requires : tie.Need-fpp-pool-requires
-fpp-pool-requires c κs = search needs
+pools-of-requires : tie.Need-pools-of-requires
+pools-of-requires c κs = search needs
 
 returns : tie.Need-returns
 unfolding constraintOver
-returns c = rw (c .fpp-pool .ensures)
+returns c = rw (c .before .pools-of .ensures)
 
 pub constraint-over-spec : {M : Type 1} → statement M
-constraint-over-spec = tie.close (tie.spec fpp-pool-requires returns)
+constraint-over-spec = tie.close (tie.spec pools-of-requires returns)

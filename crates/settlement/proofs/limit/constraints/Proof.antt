@@ -2,7 +2,6 @@
 use Prim.Native.Nat.{_≤_, _-_}
 use mathlib.Core.Path.{_≡_}
 use native.Mathlib.Omega.{arith}
-use borrow.Author.Needs.{needs}
 use Rattle.sections.specs.Search.{some}
 use Rattle.records.specs.Rows.{constraintRow}
 use Rattle.settlement.specs.Limits.{constraintOver}
@@ -23,7 +22,7 @@ constraint-row-requires : tie.Need-constraint-row-requires Inv-loop μ-loop
 constraint-row-requires c κs = omega arith
 
 constraint-over-requires : tie.Need-constraint-over-requires Inv-loop μ-loop
-constraint-over-requires c κs = search needs
+constraint-over-requires c κs = rw (c .constraint-row .ensures) (c .before .before .before .before .pre .1 _ (c .before .loop-test .taken))
 
 add-j : tie.Need-add-j Inv-loop μ-loop
 add-j c = omega arith
