@@ -36,7 +36,7 @@ pub fn by_factor(pool: u64, plus: u32, minus: u32) -> i64
 }
 
 // An account's part of a pool by its energy. The pool itself is a credit or a charge: as a rule it has one side, and is then divided
-// once, by one test and no branch on the sign, which is hard to foresee.
+// once.
 pub fn by_energy(credit: u64, charge: u64, own: u64, total: u64) -> i64
     requires { ⌜ (credit ≤ 50000000000) × ((charge ≤ 50000000000) × ((own ≤ total) × ((0 < total) × (total ≤ 100000000)))) ⌝ }
     ensures { λ r. ⌜ r ≡ byEnergy credit charge own total ⌝ }
