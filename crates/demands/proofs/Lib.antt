@@ -1,0 +1,5 @@
+pub mod Numbers
+pub mod Demand1
+pub mod Numbered
+pub mod Demand2
+pub mod Demand3
