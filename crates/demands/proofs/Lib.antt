@@ -3,3 +3,5 @@ pub mod Demand1
 pub mod Numbered
 pub mod Demand2
 pub mod Demand3
+pub mod Example
+pub mod Strength
