@@ -128,7 +128,7 @@ module _ (h : ℕ → ℤ) (nil : h 0 ≡ pos 0) (plus : (a b : ℕ) → h a +�
 abbrev minus : ℕ → ℤ
 minus n = negℤ (pos n)
 
-minus-plus : (a b : ℕ) → negℤ (pos a) +ℤ negℤ (pos b) ≡ negℤ (pos (a + b))
+pub minus-plus : (a b : ℕ) → negℤ (pos a) +ℤ negℤ (pos b) ≡ negℤ (pos (a + b))
 minus-plus a b = sym (negℤ-+ℤ (pos a) (pos b))
 
 module _ (x : ℕ → ℤ) (t : ℕ → ℕ) (p : ℕ → Bool) (n : ℕ) where
