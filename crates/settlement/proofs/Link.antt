@@ -26,7 +26,7 @@ use Rattle.settlement.specs.Walks.{ownLines, unitLinesAt, conLines, conL
 
 -- ---- the five entries
 
-entry-in : (f : ℕ → Entry) (g : ℕ) → g < 5 → entryIn (rowsOf f 5) g ≡ f g
+pub entry-in : (f : ℕ → Entry) (g : ℕ) → g < 5 → entryIn (rowsOf f 5) g ≡ f g
 unfolding entryIn rowsOf
 entry-in f zero l = refl
 entry-in f (suc zero) l = refl

@@ -1,0 +1,184 @@
+-- The records by their sizes and the records with their signs say the same of the same bytes, where each keeps its rule (check 5).
+-- Assumes nothing.
+use Prim.Native.Nat.{ℕ, zero, suc, _+_, _-_, _*_, _≤_, _<_, _^_}
+use mathlib.Core.Path.{_≡_, refl, sym, ap, ap₂, _∙_}
+use mathlib.Core.Bool.{Bool, true, false, cond}
+use mathlib.Core.List.{List}
+use native.Mathlib.Omega.{arith}
+use borrow.Author.Tests.{ltb-false}
+use lib.Dec.{ltb}
+use lib.IntN.{ℤ, pos, negsuc, negℤ, natAbs}
+use mir.Syntax.{w32, w64}
+use mir.Val.{toZ}
+use mir.Facts.{toZ-pos}
+use Rattle.ground.specs.Bytes.{u32At, u64At, partFrom, AreBytes}
+use Rattle.ground.specs.Sizes.{sizeOf, plusOf, minusOf}
+use Rattle.ground.proofs.Back.{u32-small}
+use Rattle.ground.proofs.Part.{part-bytes}
+use Rattle.ground.proofs.Signs.{size-signed}
+use Rattle.ground.proofs.Sizes.{minus-to-zero}
+use Rattle.records.specs.Rows.{entryRow, constraintRow, unitRow, energyRow, contractRow}
+use Rattle.records.specs.Rules.{factorOf}
+use Rattle.records.specs.Facts.{EntryRule, ConstraintRule, UnitRule, EnergyRule, ContractRule}
+use Rattle.records.specs.declared.rows.Entry.{Entry}
+use Rattle.records.specs.declared.rows.Constraint.{Constraint}
+use Rattle.records.specs.declared.rows.UnitRow.{UnitRow}
+use Rattle.records.specs.declared.rows.EnergyRow.{EnergyRow}
+use Rattle.records.specs.declared.rows.Contract.{Contract}
+use Rattle.book.specs.Header.{headerOf, unitsFrom, energiesFrom, contractsFrom}
+use Rattle.book.specs.Book.{bookOf}
+use Rattle.book.specs.Facts.{Fields}
+use Rattle.guide.specs.Signed.{Energies, entryAt, SignedConstraint, constraintAt, SignedUnit, unitAt, SignedEnergy, energyAt, te, SignedContract, contractAt, signedBook}
+use Rattle.guide.proofs.Numbers.{Sides, above, below}
+
+-- ---- what it means, field by field
+
+pub record SizedEnergies (e : Entry) (z : Energies) : Type 0 where
+  pub ace : z .ace ≡ negℤ (pos (e .ace))
+  pub asoe : z .asoe ≡ pos (e .asoe)
+  pub residual : z .residual ≡ pos (e .residual)
+
+pub record SizedConstraint (r : Constraint) (z : SignedConstraint) : Type 0 where
+  pub id : z .id ≡ r .id
+  pub service : z .service ≡ r .service
+  pub mask : z .mask ≡ r .mask
+  pub mode : z .mode ≡ r .mode
+  pub cost : z .cost ≡ pos (r .cost)
+  pub price : z .price ≡ pos (r .price)
+  pub rcr : z .rcr ≡ pos (r .rcr)
+  pub usage : z .usage ≡ pos (r .usage)
+  pub rcf : Sides (z .rcf) (r .plus) (r .minus)
+  pub drcf : z .drcf ≡ negℤ (pos (r .drcf))
+
+pub record SizedUnit (q : UnitRow) (z : SignedUnit) : Type 0 where
+  pub constraint : z .constraint ≡ q .constraint
+  pub unit : z .unit ≡ q .unit
+  pub account : z .account ≡ q .account
+  pub cf : Sides (z .cf) (q .plus) (q .minus)
+  pub dcf : z .dcf ≡ negℤ (pos (q .dcf))
+
+pub record SizedEnergy (r : EnergyRow) (z : SignedEnergy) : Type 0 where
+  pub account : z .account ≡ r .account
+  pub region : z .region ≡ r .region
+  pub ace : z .ace ≡ negℤ (pos (r .ace))
+  pub asoe : z .asoe ≡ pos (r .asoe)
+  pub residual : te z ≡ pos (r .race + r .rasoe)
+
+pub record SizedContract (k : Contract) (z : SignedContract) : Type 0 where
+  pub id : z .id ≡ k .id
+  pub payment : z .payment ≡ pos (k .payment)
+  pub factor : (g : ℕ) → g < 5 → z .factor g ≡ factorOf (k .factors) g
+
+-- ---- one number
+
+-- a number of 32 bits is its sizes
+sides-of : (w : ℕ) → w < 2 ^ 32 → Sides (toZ w32 w) (plusOf w) (minusOf w)
+unfolding plusOf minusOf
+sides-of w h = by (ltb w 2147483648) refl
+  where
+    by : (t : Bool) → ltb w 2147483648 ≡ t → Sides (cond t (pos w) (negsuc (4294967296 - suc w))) (cond t w 0) (cond t 0 (sizeOf w))
+    by true e = above refl refl
+    by false e =
+        let l = ltb-false w 2147483648 e in
+        let k : sizeOf w ≡ suc (4294967296 - suc w) = omega arith in
+        below (rw k refl) refl
+
+module _ (s : List ℕ) (b : AreBytes s) (k : ℕ) where
+  minus-at : (limit : ℕ) → limit < 2 ^ 31 → sizeOf (u32At s k) ≤ limit → toZ w32 (u32At s k) ≡ negℤ (pos (sizeOf (u32At s k)))
+  minus-at limit l h = minus-to-zero limit (u32At s k) l (u32-small s b k) .in-range h .is
+
+  plus-at : u32At s k < 2 ^ 31 → toZ w32 (u32At s k) ≡ pos (u32At s k)
+  plus-at h = toZ-pos w32 h
+
+  money-at : u64At s k < 2 ^ 63 → toZ w64 (u64At s k) ≡ pos (u64At s k)
+  money-at h = toZ-pos w64 h
+
+  side-at : Sides (toZ w32 (u32At s k)) (plusOf (u32At s k)) (minusOf (u32At s k))
+  side-at = sides-of (u32At s k) (u32-small s b k)
+
+-- ---- one record
+
+-- |residual ACE| + |residual ASOE|
+te-is : (x y : ℤ) (a c : ℕ) → x ≡ negℤ (pos a) → y ≡ pos c → pos (natAbs x + natAbs y) ≡ pos (a + c)
+te-is x y a c e f = ap pos (ap₂ _+_ (ap natAbs e ∙ size-signed true a) (ap natAbs f))
+
+module _ (s : List ℕ) (b : AreBytes s) where
+  entry-sized : (g : ℕ) → EntryRule (entryRow s g) → SizedEnergies (entryRow s g) (entryAt s g)
+  unfolding entryRow entryAt
+  entry-sized g r =
+      record {
+        ace = minus-at s b (g * 12) 20000000 (omega arith) (r .ace);
+        asoe = plus-at s b (g * 12 + 4) (omega (arith, r .asoe));
+        residual = plus-at s b (g * 12 + 8) (omega (arith, r .residual));
+      }
+
+  constraint-sized : (i : ℕ) → ConstraintRule (constraintRow s i) → SizedConstraint (constraintRow s i) (constraintAt s i)
+  unfolding constraintRow constraintAt
+  constraint-sized i r =
+      record {
+        id = refl;
+        service = refl;
+        mask = refl;
+        mode = refl;
+        cost = money-at s b (i * 40 + 8) (omega (arith, r .cost));
+        price = refl;
+        rcr = refl;
+        usage = refl;
+        rcf = side-at s b (i * 40 + 28);
+        drcf = minus-at s b (i * 40 + 32) 1000000 (omega arith) (r .drcf);
+      }
+
+  unit-sized : (i : ℕ) → UnitRule (unitRow s i) → SizedUnit (unitRow s i) (unitAt s i)
+  unfolding unitRow unitAt
+  unit-sized i r =
+      record {
+        constraint = refl;
+        unit = refl;
+        account = refl;
+        cf = side-at s b (i * 20 + 12);
+        dcf = minus-at s b (i * 20 + 16) 1000000 (omega arith) (r .dcf);
+      }
+
+  energy-sized : (i : ℕ) → EnergyRule (energyRow s i) → SizedEnergy (energyRow s i) (energyAt s i)
+  unfolding energyRow energyAt
+  energy-sized i r =
+      record {
+        account = refl;
+        region = refl;
+        ace = minus-at s b (i * 24 + 8) 20000000 (omega arith) (r .ace);
+        asoe = plus-at s b (i * 24 + 12) (omega (arith, r .asoe));
+        residual = te-is _ _ _ _ (minus-at s b (i * 24 + 16) 20000000 (omega arith) (omega (arith, r .race, r .ace))) (plus-at s b (i * 24 + 20) (omega (arith, r .rasoe, r .asoe)));
+      }
+
+  contract-sized : (i : ℕ) → ContractRule (contractRow s i) → SizedContract (contractRow s i) (contractAt s i)
+  unfolding contractRow contractAt
+  contract-sized i r = record { id = refl; payment = money-at s b (i * 36 + 8) (omega (arith, r .payment)); factor = each }
+    where
+      each : (g : ℕ) → g < 5 → u32At s (i * 36 + (16 + g * 4)) ≡ factorOf (contractRow s i .factors) g
+      each zero l = refl
+      each (suc zero) l = refl
+      each (suc (suc zero)) l = refl
+      each (suc (suc (suc zero))) l = refl
+      each (suc (suc (suc (suc zero)))) l = refl
+      each (suc (suc (suc (suc (suc g))))) l = absurd (none l)
+        where
+          none : suc (suc (suc (suc (suc g)))) < 5 → ⊥
+          none l = omega arith
+
+-- ---- a book whose records keep their rules
+
+module _ (b : List ℕ) (a : AreBytes b) (f : Fields (bookOf b)) where
+  pub sized-entry : (g : ℕ) → g < 5 → SizedEnergies (bookOf b .entry g) (signedBook b .entry g)
+  sized-entry g l = entry-sized (partFrom 24 b) (part-bytes 24 b a) g (f .entries g l)
+
+  pub sized-constraint : (j : ℕ) → j < headerOf b .constraints → SizedConstraint (bookOf b .constraint j) (signedBook b .constraint j)
+  sized-constraint j l = constraint-sized (partFrom 84 b) (part-bytes 84 b a) j (f .constraints j l)
+
+  pub sized-unit : (u : ℕ) → u < headerOf b .units → SizedUnit (bookOf b .unit u) (signedBook b .unit u)
+  sized-unit u l = unit-sized (partFrom (unitsFrom (headerOf b)) b) (part-bytes (unitsFrom (headerOf b)) b a) u (f .units u l)
+
+  pub sized-energy : (i : ℕ) → i < headerOf b .energies → SizedEnergy (bookOf b .energy i) (signedBook b .energy i)
+  sized-energy i l = energy-sized (partFrom (energiesFrom (headerOf b)) b) (part-bytes (energiesFrom (headerOf b)) b a) i (f .energies i l)
+
+  pub sized-contract : (k : ℕ) → k < headerOf b .contracts → SizedContract (bookOf b .contract k) (signedBook b .contract k)
+  sized-contract k l = contract-sized (partFrom (contractsFrom (headerOf b)) b) (part-bytes (contractsFrom (headerOf b)) b a) k (f .contracts k l)

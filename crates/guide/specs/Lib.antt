@@ -1,0 +1,4 @@
+pub mod Numbers
+pub mod Signed
+pub mod Guide
+pub mod Checks
