@@ -3,6 +3,7 @@
 
 use std::rc::Rc;
 
+use crate::edge;
 use crate::edits;
 use crate::promises;
 use crate::rattle::{public_functions, Function};
@@ -444,6 +445,35 @@ fn a_definition_that_a_page_cites_and_is_gone_is_noticed() {
             text.replace(theorem, "charge-depends")
         });
     });
+}
+
+/// Each passes the proof.
+#[test]
+fn an_edge_of_another_shape_is_noticed() {
+    let repository = Repository::read();
+    let watch = Watch::over(&repository, edge::unlike_the_header);
+    let verdict = "pub struct VerdictAnswer {\n    pub refusal: u64,\n    pub place: u64,\n";
+    let exchanged = "pub struct VerdictAnswer {\n    pub place: u64,\n    pub refusal: u64,\n";
+    let narrow = "pub struct VerdictAnswer {\n    pub refusal: u32,\n    pub place: u64,\n";
+    let free = format!("#[repr(C)]\n{verdict}");
+    let account = "    account: u32,\n    buffer: &mut [u8],\n";
+    let behind = "    buffer: &mut [u8],\n    account: u32,\n";
+    let changes = [
+        (verdict, exchanged, "fervolatro_check"),
+        (verdict, narrow, "fervolatro_check"),
+        (&free, verdict, "fervolatro_check"),
+        (account, behind, "fervolatro_statement"),
+        ("index: u64", "index: u32", "fervolatro_line"),
+        ("number: u64", "number: u32", "fervolatro_balance"),
+        (
+            "fn fervolatro_rewrite",
+            "fn fervolatro_write",
+            "fervolatro_rewrite",
+        ),
+    ];
+    for (old, new, about) in changes {
+        watch.notices(about, |changed| replace(changed, edge::CODE, old, new));
+    }
 }
 
 #[test]

@@ -6,6 +6,7 @@
 //! complaints. The tests of `losses` take something away first, and ask for a complaint
 //! about it.
 
+mod edge;
 mod edits;
 mod losses;
 mod page;
@@ -67,6 +68,11 @@ fn what_the_pages_cite_is_defined() {
     for page in ["README.md", "docs/PROMISES.md", "docs/DECISIONS.md"] {
         assert_none(&theorems::undefined(&Repository::read(), page));
     }
+}
+
+#[test]
+fn the_edge_is_the_header_s() {
+    assert_none(&edge::unlike_the_header(&Repository::read()));
 }
 
 #[test]
