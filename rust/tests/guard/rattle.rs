@@ -137,7 +137,7 @@ impl Reader<'_> {
                 clauses.push(self.between(next, end + 1));
                 next = end;
             }
-            next += 1;
+            next = closing(self.tokens, next) + 1;
         }
         let end = closing(self.tokens, next);
         let owner = self.owner(at);
@@ -145,7 +145,7 @@ impl Reader<'_> {
             path: path_of(self.file, owner, name.text),
             file: self.file.to_owned(),
             is_public,
-            signature: self.between(open, signature_end.unwrap_or(next)),
+            signature: on_one_line(&self.between(open, signature_end.unwrap_or(next))),
             clauses,
             lines: (self.line(start), self.line(end)),
             owner: owner.map(str::to_owned),
@@ -190,6 +190,11 @@ impl Reader<'_> {
             .map_or(self.text.len(), |token| token.at);
         line_at(self.text, at)
     }
+}
+
+/// A signature that stood on several lines has a blank and a comma at its ends.
+fn on_one_line(signature: &str) -> String {
+    signature.replace("( ", "(").replace(", )", ")")
 }
 
 /// The line, counted from 1, that has this byte.
@@ -275,6 +280,7 @@ fn closing(tokens: &[Token<'_>], open: usize) -> usize {
     };
     let closer = match opener.text {
         "(" => ")",
+        "[" => "]",
         "{" => "}",
         _ => return open,
     };
@@ -293,14 +299,21 @@ fn owners<'a>(tokens: &[Token<'a>]) -> Vec<Owner<'a>> {
     let starts = (0..tokens.len()).filter(|&at| tokens[at].text == "impl");
     let owners = starts.filter_map(|from| {
         let open = (from..tokens.len()).find(|&at| tokens[at].text == "{")?;
-        let words = tokens[from + 1..open]
-            .iter()
-            .filter(|token| token.is_word());
-        let name = words.last()?.text;
+        let name = last_type(&tokens[from + 1..open])?;
         let to = closing(tokens, open);
         Some(Owner { from, to, name })
     });
     owners.collect()
+}
+
+/// `Type` of `<'a> Type<'a>` and of `Trait for Type`.
+fn last_type<'a>(tokens: &[Token<'a>]) -> Option<&'a str> {
+    let mut depth = 0;
+    let outside = tokens.iter().filter(|token| {
+        depth += i32::from(token.text == "<") - i32::from(token.text == ">");
+        depth == 0 && token.is_word()
+    });
+    outside.last().map(|token| token.text)
 }
 
 fn calls(body: &[Token<'_>]) -> Vec<Call> {
@@ -394,4 +407,80 @@ pub fn with_helpers<'a>(all: &'a [Function], from: &[&'a Function]) -> Vec<&'a F
     reached(all, from, |caller, called| {
         !called.is_public && called.crate_name() == caller.crate_name()
     })
+}
+
+#[cfg(test)]
+mod tests {
+    use super::{functions, with_helpers};
+
+    const CODE: &str = "\
+// pub fn in_a_comment() {
+impl<'a> Kind<'a> {
+    // The numbers.
+    pub fn numbers(self) -> [u8; 3]
+        requires { ⌜ mod' 1 ≡ 1 ⌝ } // why
+        ensures { λ r. ⌜
+            r ≡ record { first = 1 } ⌝ }
+    {
+        let brace = b\"} \\\" pub fn in_a_string() {\";
+        [brace[0], '}' as u8, helper(brace)]
+    }
+
+    pub(crate) fn helper(text: &[u8; 9]) -> u8 {
+        text[1]
+    }
+}
+
+#[no_mangle]
+pub extern \"C\" fn call(
+    book: &[u8],
+    number: u64,
+) -> Answer
+    ensures { λ r. ⌜ r ≡ answer ⌝ }
+{
+    match number {
+        _ => Kind::of(book).numbers(),
+    }
+}
+";
+
+    #[test]
+    fn functions_are_read() {
+        let functions = functions("crates/edge/src/kinds.rt", CODE);
+        let read: Vec<_> = functions
+            .iter()
+            .map(|one| (one.path.as_str(), one.is_public, one.lines))
+            .collect();
+        let expected = [
+            ("edge::kinds::Kind::numbers", true, (4, 11)),
+            ("edge::kinds::Kind::helper", false, (13, 15)),
+            ("edge::kinds::call", true, (19, 28)),
+        ];
+        assert_eq!(read, expected);
+    }
+
+    #[test]
+    fn contracts_are_read() {
+        let functions = functions("crates/edge/src/lib.rt", CODE);
+        assert_eq!(functions[0].signature, "(self) -> [u8; 3]");
+        let clauses = [
+            "requires { ⌜ mod' 1 ≡ 1 ⌝ }",
+            "ensures { λ r. ⌜ r ≡ record { first = 1 } ⌝ }",
+        ];
+        assert_eq!(functions[0].clauses, clauses);
+        assert_eq!(
+            functions[2].signature,
+            "(book: &[u8], number: u64) -> Answer"
+        );
+        assert_eq!(functions[2].clauses, ["ensures { λ r. ⌜ r ≡ answer ⌝ }"]);
+    }
+
+    #[test]
+    fn helpers_are_those_of_the_crate_that_are_not_public() {
+        let functions = functions("crates/edge/src/lib.rt", CODE);
+        let helpers = with_helpers(&functions, &[&functions[0]]);
+        let paths: Vec<&str> = helpers.iter().map(|one| one.path.as_str()).collect();
+        assert_eq!(paths, ["edge::Kind::numbers", "edge::Kind::helper"]);
+        assert_eq!(with_helpers(&functions, &[&functions[2]]).len(), 1);
+    }
 }
