@@ -230,7 +230,10 @@ impl<'a> Edit<'a> {
                 Place::Elsewhere => {}
             }
         }
-        Some(format!("it edits {}", elsewhere.join(", ")))
+        match elsewhere.is_empty() {
+            true => Some("it edits nothing of a function".to_owned()),
+            false => Some(format!("it edits {}", elsewhere.join(", "))),
+        }
     }
 
     fn place(&self, edit: &Replacement) -> Place<'a> {

@@ -388,9 +388,12 @@ fn a_theorem_that_is_lost_is_noticed() {
     for named in theorems::named(&demands) {
         let stated = format!("pub {} :", named.theorem);
         let unstated = format!("{} :", named.theorem);
-        watch.notices(&named.theorem, |changed| {
-            replace(changed, &named.file, &stated, &unstated);
-        });
+        let empty = ["⊤", "0 ≡ 0"].map(|statement| format!("{stated} {statement}\n"));
+        for instead in [unstated].iter().chain(&empty) {
+            watch.notices(&named.theorem, |changed| {
+                replace(changed, &named.file, &stated, instead);
+            });
+        }
         watch.notices(&named.theorem, |changed| {
             changed.files.remove(&named.file);
         });

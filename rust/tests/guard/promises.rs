@@ -77,7 +77,7 @@ impl<'a> Promise<'a> {
 
 /// Whether one of the parts of a promise holds of anything: what always holds, or that
 /// something is itself.
-fn says_nothing(body: &str) -> bool {
+pub fn says_nothing(body: &str) -> bool {
     let body = without_outer_brackets(body);
     let parts = split_outside(body, " × ");
     if parts.len() > 1 {

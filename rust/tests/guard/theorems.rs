@@ -4,6 +4,7 @@
 use std::collections::BTreeSet;
 
 use crate::page::{code_spans, rows};
+use crate::promises::says_nothing;
 use crate::repository::Repository;
 
 const PAGE: &str = "README.md";
@@ -36,17 +37,16 @@ pub fn named(repository: &Repository) -> Vec<Named> {
     named
 }
 
-/// The theorems that a file states for others: `pub name : ..`.
-fn stated(text: &str) -> impl Iterator<Item = &str> {
+/// The theorems that a file states for others, `pub name : statement`.
+fn stated(text: &str) -> impl Iterator<Item = (&str, &str)> {
     let lines = text.lines().map(str::trim_start);
     let public = lines.filter_map(|line| line.strip_prefix("pub "));
-    let stated = public.filter_map(|line| line.split_once(" : "));
-    let names = stated.map(|(name, _)| name);
-    names.filter(|name| !name.contains(' '))
+    let stated = public.filter_map(|line| line.split_once(" :"));
+    stated.filter(|(name, _)| !name.contains(' '))
 }
 
-/// Demands without a theorem, theorems that are not where README has them, theorems of
-/// a demand's own file that README does not name.
+/// Demands without a theorem, theorems that are not where README has them or state
+/// nothing, theorems of a demand's own file that README does not name.
 pub fn missing(repository: &Repository) -> Vec<String> {
     let named = named(repository);
     let mut missing = Vec::new();
@@ -55,18 +55,31 @@ pub fn missing(repository: &Repository) -> Vec<String> {
             missing.push(format!("{PAGE} names no theorem of demand {demand}"));
         }
     }
-    for Named { theorem, file, .. } in &named {
-        let is_stated = stated(repository.text(file)).any(|name| name == theorem);
-        if !file.starts_with(FOLDER) || !is_stated {
-            missing.push(format!("{theorem} does not stand in {file} of {FOLDER}"));
-        }
-    }
+    missing.extend(
+        named
+            .iter()
+            .filter_map(|named| why_missing(repository, named)),
+    );
     let known: BTreeSet<&str> = named.iter().map(|named| named.theorem.as_str()).collect();
     for (file, text) in repository.between(&format!("{FOLDER}Demand"), ".antt") {
-        let unnamed = stated(text).filter(|name| !known.contains(name));
-        missing.extend(unnamed.map(|name| format!("{PAGE} does not name {name} of {file}")));
+        let unnamed = stated(text).filter(|(name, _)| !known.contains(name));
+        missing.extend(unnamed.map(|(name, _)| format!("{PAGE} does not name {name} of {file}")));
     }
     missing
+}
+
+fn why_missing(repository: &Repository, named: &Named) -> Option<String> {
+    let Named { theorem, file, .. } = named;
+    let mut stated = stated(repository.text(file));
+    match stated.find(|(name, _)| name == theorem) {
+        _ if !file.starts_with(FOLDER) => Some(format!("{theorem} is not of {FOLDER}")),
+        None => Some(format!("{theorem} does not stand in {file}")),
+        // A statement may begin on the next line.
+        Some((_, statement)) if statement.trim().is_empty() => None,
+        Some((_, statement)) => {
+            says_nothing(statement).then(|| format!("{theorem} of {file} states nothing"))
+        }
+    }
 }
 
 /// Names that a page gives with a file of antt, `name` (`path`), and that the file does
