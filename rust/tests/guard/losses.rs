@@ -431,22 +431,30 @@ fn a_theorem_of_today_that_is_lost_is_noticed() {
 }
 
 #[test]
-fn a_definition_that_a_page_cites_and_is_gone_is_noticed() {
+fn a_file_that_a_page_cites_and_is_gone_is_noticed() {
     let repository = Repository::read();
     let watch = Watch::over(&repository, |repository| {
         theorems::undefined(repository, promises::PAGE)
     });
-    let (file, theorem) = (
-        "crates/settlement/proofs/Demand3.antt",
-        "charge-depends-on-no-neighbour",
-    );
-    watch.notices(file, |changed| {
-        changed.files.remove(file);
-    });
-    watch.notices(theorem, |changed| {
-        rewrite(changed, file, |text| {
-            text.replace(theorem, "charge-depends")
+    let cited = theorems::cited(&repository, promises::PAGE);
+    assert!(cited.len() >= 10, "the page cites {} files", cited.len());
+    for cited in cited {
+        watch.notices(cited.path, |changed| {
+            changed.files.remove(cited.path);
         });
+    }
+}
+
+#[test]
+fn a_definition_that_a_page_cites_and_is_gone_is_noticed() {
+    let page = "The law `two-is-two` (`crates/low/proofs/Low.antt`) says it.";
+    let file = "crates/low/proofs/Low.antt";
+    let text = "  pub two-is-two : 2 ≡ 2\n  two-is-two = refl\n";
+    let repository = repository_of(&[("page.md", page), (file, text)]);
+    let guard: Guard = |repository| theorems::undefined(repository, "page.md");
+    assert_quiet(guard, &repository);
+    Watch::over(&repository, guard).notices("two-is-two", |changed| {
+        replace(changed, file, "pub two-is-two :", "pub two-is-three :");
     });
 }
 

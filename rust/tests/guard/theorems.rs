@@ -82,22 +82,34 @@ fn why_missing(repository: &Repository, named: &Named) -> Option<String> {
     }
 }
 
-/// Names that a page gives with a file of antt, `name` (`path`), and that the file does
-/// not define; and such files that are not there.
-pub fn undefined(repository: &Repository, page: &str) -> Vec<String> {
+/// A file of antt that a page cites, and what it is said to define: `name` (`path`).
+pub struct Cited<'a> {
+    pub path: &'a str,
+    said: Option<&'a str>,
+}
+
+pub fn cited<'a>(repository: &'a Repository, page: &str) -> Vec<Cited<'a>> {
     let parts: Vec<&str> = repository.text(page).split('`').collect();
+    let spans = (3..parts.len()).step_by(2);
+    let cited = spans.map(|at| Cited {
+        path: parts[at],
+        said: Some(parts[at - 2]).filter(|_| parts[at - 1] == " ("),
+    });
+    let is_file = |path: &str| path.starts_with("crates/") && path.ends_with(".antt");
+    let files = cited.filter(|cited| is_file(cited.path) && !cited.path.contains('*'));
+    files.collect()
+}
+
+/// Files that a page cites and that are not there, or do not define what it says.
+pub fn undefined(repository: &Repository, page: &str) -> Vec<String> {
     let mut undefined = Vec::new();
-    for at in (3..parts.len()).step_by(2) {
-        let (said, between, path) = (parts[at - 2], parts[at - 1], parts[at]);
-        if !path.starts_with("crates/") || !path.ends_with(".antt") || path.contains('*') {
-            continue;
-        }
+    for Cited { path, said } in cited(repository, page) {
         let Some(text) = repository.files.get(path) else {
             undefined.push(format!("{page} names {path}, which is not there"));
             continue;
         };
-        let mut words = said.split([' ', '(', ')']);
-        if between == " (" && !words.any(|word| defines(text, word)) {
+        let defines_any = |said: &str| said.split([' ', '(', ')']).any(|word| defines(text, word));
+        if let Some(said) = said.filter(|said| !defines_any(said)) {
             undefined.push(format!("{path} does not define {said}, as {page} has it"));
         }
     }
