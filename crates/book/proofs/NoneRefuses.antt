@@ -1,5 +1,5 @@
 -- Where the short sections pass their checks and the passes over the long ones find nothing wrong, no check refuses the book. Assumes nothing.
-use Prim.Native.Nat.{ℕ}
+use Prim.Native.Nat.{ℕ, _<_}
 use mathlib.Core.List.{List}
 use mathlib.Core.Path.{_≡_, sym, _∙_}
 use mathlib.Core.Bool.{Bool, true, false, not}
@@ -16,12 +16,14 @@ use Rattle.sections.proofs.Refusal.{record-held, first-held, earlier-last}
 use Rattle.records.specs.Rows.{entryRow, constraintRow, unitRow, energyRow}
 use Rattle.records.specs.Rules.{entryOk, constraintOk, unitOk, energyOk, contractOk, constraintBelow, unitBelow, energyBelow, contractBelow}
 use Rattle.records.specs.Checks.{sectionVerdict}
+use Rattle.records.specs.Facts.{ConstraintRule}
 use Rattle.records.specs.declared.section.Check.the-variants.{EntryFields, ConstraintFields, ContractFields, ConstraintOrder, ContractOrder}
 use Rattle.records.proofs.Rule.{entry-rules, constraint-rules, unit-rules, energy-rules, contract-rules, constraints-rise}
 use Rattle.factors.specs.Naming.{idOf, namedAt}
 use Rattle.factors.specs.Factors.{factorsAt}
 use Rattle.totals.specs.Sums.{entryAt}
-use Rattle.quick.specs.Holds.{EnergiesHold, UnitsHold}
+use Rattle.quick.specs.Holds.{EnergiesHold, unitsHold}
+use Rattle.quick.proofs.Said.{UnitsHold, units-say}
 use Rattle.book.specs.declared.header.Header.{Header}
 use Rattle.book.specs.Header.{unitsFrom, energiesFrom, contractsFrom}
 use Rattle.book.specs.Book.{Book, bookIn}
@@ -62,12 +64,15 @@ module _ (B : Book) {v : Verdict} (g : v ≡ Accepted) (q : v ≡ firstOf (short
   pub ids-rise : Rises (idOf (B .constraint)) (B .header .constraints)
   ids-rise = constraints-rise (B .constraint) (B .header .constraints) (short .rise)
 
+  pub constraints-rule : (j : ℕ) → j < B .header .constraints → ConstraintRule (B .constraint j)
+  constraints-rule = constraint-rules (B .constraint) (B .header .constraints) (short .constraints)
+
   module _ (u : UnitsHold (B .constraint) (B .header .constraints) (B .unit) (B .header .units)) (n : EnergiesHold (B .energy) (B .header .energies) (B .entry)) where
     pub fields-hold : Fields B
     fields-hold =
         record {
           entries = entry-rules (B .entry) 5 (short .entries);
-          constraints = constraint-rules (B .constraint) (B .header .constraints) (short .constraints);
+          constraints = constraints-rule;
           units = unit-rules (B .unit) (B .header .units) (first-good _ _ (u .fields));
           energies = energy-rules (B .energy) (B .header .energies) (first-good _ _ (n .fields));
           contracts = contract-rules (B .contract) (B .header .contracts) (short .contracts);
@@ -96,8 +101,8 @@ module _ (B : Book) {v : Verdict} (g : v ≡ Accepted) (q : v ≡ firstOf (short
 -- ---- what a pass said of the sections where they stand; t is what it answered
 
 module _ (b : List ℕ) (h : Header) {a : ℕ} {t : Bool} where
-  pub units-said : a ≡ unitsFrom h → (t ≡ true → UnitsHold (constraintRow (partFrom 84 b)) (h .constraints) (unitRow (partFrom a b)) (h .units)) → not t ≡ false → UnitsHold (bookIn b h .constraint) (h .constraints) (bookIn b h .unit) (h .units)
-  units-said e f g = rw e at (f (not-false t g))
+  pub units-said : a ≡ unitsFrom h → t ≡ unitsHold (constraintRow (partFrom 84 b)) (h .constraints) (unitRow (partFrom a b)) (h .units) → not t ≡ false → UnitsHold (bookIn b h .constraint) (h .constraints) (bookIn b h .unit) (h .units)
+  units-said e f g = units-say _ _ _ _ (rw e at (sym f ∙ not-false t g))
 
   pub energies-said : a ≡ energiesFrom h → (t ≡ true → EnergiesHold (energyRow (partFrom a b)) (h .energies) (entryRow (partFrom 24 b))) → not t ≡ false → EnergiesHold (bookIn b h .energy) (h .energies) (bookIn b h .entry)
   energies-said e f g = rw e at (f (not-false t g))

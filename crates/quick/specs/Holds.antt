@@ -1,8 +1,9 @@
--- What a pass over a long section shows where it says that all is well.
+-- Whether the checks of a long section pass: what a pass over it answers.
 use Prim.Native.Nat.{ℕ, _<_}
 use mathlib.Core.Path.{_≡_}
-use mathlib.Core.Bool.{true}
+use mathlib.Core.Bool.{Bool, true, _&&_}
 use Rattle.sections.specs.Order.{risesBy}
+use Rattle.sections.specs.Search.{all}
 use Rattle.records.specs.Rules.{unitOk, energyOk, unitBelow, energyBelow}
 use Rattle.records.specs.declared.rows.Entry.{Entry}
 use Rattle.records.specs.declared.rows.Constraint.{Constraint}
@@ -18,9 +19,11 @@ pub record EnergiesHold (energy : ℕ → EnergyRow) (n : ℕ) (entry : ℕ → 
   pub order : (i : ℕ) → i < n → risesBy energyBelow energy i ≡ true
   pub sums : (g : ℕ) → g < 5 → entryAt energy n entry g ≡ true
 
--- checks 5, 6, 7 and 8 pass of the m unit rows and the n constraints
-pub record UnitsHold (con : ℕ → Constraint) (n : ℕ) (unit : ℕ → UnitRow) (m : ℕ) : Type 0 where
-  pub fields : (u : ℕ) → u < m → unitOk (unit u) ≡ true
-  pub order : (u : ℕ) → u < m → risesBy unitBelow unit u ≡ true
-  pub named : (u : ℕ) → u < m → namedAt con n unit u ≡ true
-  pub factored : (j : ℕ) → j < n → factorsAt unit m con j ≡ true
+-- of the m unit rows 5, "a field outside the rules above", 6, "not strictly rising", and 7, "a unit row names no constraint here, or one
+-- of mode 0"; and of the n constraints 8, "factor sums fail": none of these is met
+unfoldable pub unitsHold : (ℕ → Constraint) → ℕ → (ℕ → UnitRow) → ℕ → Bool
+unitsHold con n unit m =
+    all (λ u. unitOk (unit u)) m
+    && all (risesBy unitBelow unit) m
+    && all (namedAt con n unit) m
+    && all (factorsAt unit m con) n

@@ -1,5 +1,5 @@
 -- `book::passes::none_refuses` meets its contract. Where it answers true, each section has been seen to hold. Assumes nothing.
-use Rattle.book.proofs.NoneRefuses.{ids-rise, units-said, energies-said, fields-hold, never, none-refuses}
+use Rattle.book.proofs.NoneRefuses.{ids-rise, constraints-rule, units-said, energies-said, fields-hold, never, none-refuses}
 use Rattle.book.proofs.Room.{constraints-room, units-room}
 use Rattle.book.specs.Book.{bookIn}
 use borrow.Author.Needs.{needs}
@@ -46,7 +46,9 @@ cast-units-hold : tie.Need-cast-units-hold
 cast-units-hold c = search needs
 
 units-hold-requires : tie.Need-units-hold-requires
-units-hold-requires c κs = ((constraints-room _ _ (c .before .before .before .before .before .before .before .before .before .pre), (units-room _ _ (c .before .before .before .before .before .before .before .before .before .pre) _ (c .before .before .before .before .units-at .ensures), c .before .before .before .before .before .before .before .before .before .pre .few .units)), ids-rise (bookIn (c .before .before .before .before .before .before .before .before .before .args .book .now) (c .before .before .before .before .before .before .before .before .before .args .h)) (c .before .before .before .before .before .enum-told2 .given .1) (c .before .before .before .before .before .before .before .short-sections .ensures))
+units-hold-requires c κs =
+    let laid = c .before .before .before .before .before .before .before .before .before .pre in
+    ((constraints-room _ _ laid, (units-room _ _ laid _ (c .before .before .before .before .units-at .ensures), laid .few .units)), (ids-rise (bookIn (c .before .before .before .before .before .before .before .before .before .args .book .now) (c .before .before .before .before .before .before .before .before .before .args .h)) (c .before .before .before .before .before .enum-told2 .given .1) (c .before .before .before .before .before .before .before .short-sections .ensures), constraints-rule (bookIn (c .before .before .before .before .before .before .before .before .before .args .book .now) (c .before .before .before .before .before .before .before .before .before .args .h)) (c .before .before .before .before .before .enum-told2 .given .1) (c .before .before .before .before .before .before .before .short-sections .ensures)))
 
 returns-2 : tie.Need-returns-2
 returns-2 c = never
