@@ -8,12 +8,15 @@ use Rattle.ground.proofs.Every as tests
 use Rattle.sections.specs.Order.{risesBy}
 use Rattle.sections.specs.Search.{all}
 use Rattle.sections.proofs.Search.{all-each, all-of}
-use Rattle.records.specs.Rules.{unitOk, unitBelow}
+use Rattle.records.specs.Rules.{unitOk, energyOk, unitBelow, energyBelow}
+use Rattle.records.specs.declared.rows.Entry.{Entry}
 use Rattle.records.specs.declared.rows.Constraint.{Constraint}
 use Rattle.records.specs.declared.rows.UnitRow.{UnitRow}
+use Rattle.records.specs.declared.rows.EnergyRow.{EnergyRow}
 use Rattle.factors.specs.Naming.{namedAt}
 use Rattle.factors.specs.Factors.{factorsAt}
-use Rattle.quick.specs.Holds.{unitsHold}
+use Rattle.totals.specs.Sums.{entryAt}
+use Rattle.quick.specs.Holds.{unitsHold, energiesHold}
 
 -- ---- answers
 
@@ -65,3 +68,34 @@ module _ (con : ℕ → Constraint) (n : ℕ) (unit : ℕ → UnitRow) (m : ℕ)
   units-said h =
       tests.all unit-tests
       (all-of (λ u. unitOk (unit u)) m (h .fields), (all-of (risesBy unitBelow unit) m (h .order), (all-of (namedAt con n unit) m (h .named), (all-of (factorsAt unit m con) n (h .factored), tt))))
+
+-- ---- energy rows
+
+pub record EnergiesHold (energy : ℕ → EnergyRow) (n : ℕ) (entry : ℕ → Entry) : Type 0 where
+  pub fields : (i : ℕ) → i < n → energyOk (energy i) ≡ true
+  pub order : (i : ℕ) → i < n → risesBy energyBelow energy i ≡ true
+  pub sums : (g : ℕ) → g < 5 → entryAt energy n entry g ≡ true
+
+module _ (energy : ℕ → EnergyRow) (n : ℕ) (entry : ℕ → Entry) where
+  abbrev energy-tests : List Bool
+  energy-tests =
+      all (λ i. energyOk (energy i)) n
+      ∷ all (risesBy energyBelow energy) n
+      ∷ all (entryAt energy n entry) 5
+      ∷ []
+
+  pub energies-say : energiesHold energy n entry ≡ true → EnergiesHold energy n entry
+  unfolding energiesHold
+  energies-say e =
+      let h = tests.every energy-tests e in
+      record {
+        fields = all-each (λ i. energyOk (energy i)) n (h .0);
+        order = all-each (risesBy energyBelow energy) n (h .1 .0);
+        sums = all-each (entryAt energy n entry) 5 (h .1 .1 .0);
+      }
+
+  pub energies-said : EnergiesHold energy n entry → energiesHold energy n entry ≡ true
+  unfolding energiesHold
+  energies-said h =
+      tests.all energy-tests
+      (all-of (λ i. energyOk (energy i)) n (h .fields), (all-of (risesBy energyBelow energy) n (h .order), (all-of (entryAt energy n entry) 5 (h .sums), tt)))

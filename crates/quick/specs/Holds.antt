@@ -1,7 +1,6 @@
 -- Whether the checks of a long section pass: what a pass over it answers.
-use Prim.Native.Nat.{ℕ, _<_}
-use mathlib.Core.Path.{_≡_}
-use mathlib.Core.Bool.{Bool, true, _&&_}
+use Prim.Native.Nat.{ℕ}
+use mathlib.Core.Bool.{Bool, _&&_}
 use Rattle.sections.specs.Order.{risesBy}
 use Rattle.sections.specs.Search.{all}
 use Rattle.records.specs.Rules.{unitOk, energyOk, unitBelow, energyBelow}
@@ -13,11 +12,11 @@ use Rattle.factors.specs.Naming.{namedAt}
 use Rattle.factors.specs.Factors.{factorsAt}
 use Rattle.totals.specs.Sums.{entryAt}
 
--- checks 5, 6 and 9 pass of the n energy rows
-pub record EnergiesHold (energy : ℕ → EnergyRow) (n : ℕ) (entry : ℕ → Entry) : Type 0 where
-  pub fields : (i : ℕ) → i < n → energyOk (energy i) ≡ true
-  pub order : (i : ℕ) → i < n → risesBy energyBelow energy i ≡ true
-  pub sums : (g : ℕ) → g < 5 → entryAt energy n entry g ≡ true
+-- of the n energy rows 5, "a field outside the rules above", and 6, "not strictly rising"; and of the five region entries 9, "a region
+-- entry differs from its rows' sums": none of these is met
+unfoldable pub energiesHold : (ℕ → EnergyRow) → ℕ → (ℕ → Entry) → Bool
+energiesHold energy n entry =
+    all (λ i. energyOk (energy i)) n && all (risesBy energyBelow energy) n && all (entryAt energy n entry) 5
 
 -- of the m unit rows 5, "a field outside the rules above", 6, "not strictly rising", and 7, "a unit row names no constraint here, or one
 -- of mode 0"; and of the n constraints 8, "factor sums fail": none of these is met

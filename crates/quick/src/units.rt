@@ -1,6 +1,7 @@
 // The unit rows beside the constraints, in one pass: checks 5 and 6 of the unit rows, 7 and 8.
-// The rows of a constraint are a run. A row that breaks its run is never taken, since the ids of later constraints are larger, so that all is
-// well only where every row was taken. No row's factors are tested: sums of at most 1,000,000 have no larger part.
+// The rows of a constraint are a run. A row that breaks its run is never taken, since the ids of later constraints are larger, and in a good
+// book no row does, so that all is well exactly where every row was taken. No row's factors are tested: sums of at most 1,000,000 have no
+// larger part, and a constraint that keeps its rule has no larger sums.
 ghost use mathlib.Core.Path.{_≡_};
 ghost use Prim.Native.Nat.{ℕ, _+_, _*_, _≤_, _<_};
 ghost use lib.ListN.{length};
@@ -66,7 +67,7 @@ fn settles(r: Constraint, t: Sums, from: usize) -> bool
     ((r.mode != 0) | (t.next == from)) & sums::sums_ok(r, t)
 }
 
-// Whether unit rows and constraints keep these checks. The constraints' own rules have been seen to hold.
+// Whether unit rows and constraints keep these checks; that the constraints keep their own rules has been seen before.
 pub fn units_hold(cons: &[u8], n: usize, units: &[u8], m: usize) -> bool
     requires { ⌜ (n * 40 ≤ length (now cons)) × ((m * 20 ≤ length (now units)) × (m ≤ 600)) ⌝ }
     requires { ⌜ Rises (idOf (constraintRow (now cons))) n ⌝ }
