@@ -1,7 +1,7 @@
 -- The pass over the energy rows turn by turn: what is known of the rows so far, and of the last one's key. Assumes nothing.
-use Prim.Native.Nat.{ℕ, zero, suc, _+_, _-_, _*_, _≤_, _<_}
+use Prim.Native.Nat.{ℕ, suc, _+_, _-_, _*_, _≤_, _<_}
 use mathlib.Core.Path.{_≡_, refl, sym, ap, _∙_}
-use mathlib.Core.Bool.{Bool, true, false, not, _&&_}
+use mathlib.Core.Bool.{Bool, true, false, not}
 use mathlib.Core.List.{List, [], _∷_}
 use mathlib.Core.Logic.{⊎-elim}
 use native.Mathlib.Omega.{arith}
@@ -9,8 +9,10 @@ use native.Mathlib.Nat.{eq-zero-or-pos}
 use borrow.Author.Count.{below-none, below-more}
 use borrow.Author.Tests.{not-true, not-false}
 use lib.ListN.{replicate}
+use lib.Seq.{ext-getD}
 use Rattle.ground.proofs.Every.{every, all}
 use Rattle.sections.specs.Order.{risesBy}
+use Rattle.sections.specs.Walk.{Split}
 use Rattle.sections.proofs.Order.{rises-first, rises-later, rises-step}
 use Rattle.sections.proofs.Search.{lt-or-ge}
 use Rattle.sections.proofs.Groups.{split-more, split-bound}
@@ -33,6 +35,11 @@ after a b l h =
       race = h .race;
       rasoe = h .rasoe;
     }
+
+-- five sums by region are no others
+split-once : (group f : ℕ → ℕ) (i : ℕ) {l x : List ℕ} → Split 5 group f i l → Split 5 group f i x → l ≡ x
+split-once group f i {l} {x} h g =
+    ext-getD 0 l x (h .long ∙ sym (g .long)) (λ k b. let m : k < 5 = rw (h .long) at b in h .each k m ∙ sym (g .each k m))
 
 -- energies of 32 bits
 pub record Narrow (r : EnergyRow) : Type 0 where
@@ -179,13 +186,25 @@ module _ (energy : ℕ → EnergyRow) where
       none : n < n → ⊥
       none h = omega arith
 
-  -- no second number of rows fits
-  pub summed-once : (n i j : ℕ) {t x : Totals} → SummedIs energy n i t → SummedIs energy n j x → i ≡ j
-  summed-once n i j h g =
-      ⊎-elim
-      (λ (a : i < j). absurd (no-yes (h .ended (omega (arith, g .high))) (g .each i a)))
-      (λ (a : j ≤ i). ⊎-elim
-      (λ (b : j < i). absurd (no-yes (g .ended (omega (arith, h .high))) (h .each j b)))
-      (λ (b : i ≤ j). omega arith)
-      (lt-or-ge j i))
-      (lt-or-ge i j)
+  -- no second number of rows and no other sums fit
+  pub summed-once : (n i j : ℕ) (t x : Totals) → SummedIs energy n i t → SummedIs energy n j x → (i ≡ j) × (t ≡ x)
+  summed-once n i j t x h g =
+      let same = place in
+      let other : SummedIs energy n i x = rw (← same) at g in (
+        same,
+        λ k. record {
+          ace = split-once _ _ i (h .sums .ace) (other .sums .ace) k;
+          asoe = split-once _ _ i (h .sums .asoe) (other .sums .asoe) k;
+          residual = split-once _ _ i (h .sums .residual) (other .sums .residual) k;
+        },
+      )
+    where
+      place : i ≡ j
+      place =
+          ⊎-elim
+          (λ (a : i < j). absurd (no-yes (h .ended (omega (arith, g .high))) (g .each i a)))
+          (λ (a : j ≤ i). ⊎-elim
+          (λ (b : j < i). absurd (no-yes (g .ended (omega (arith, h .high))) (h .each j b)))
+          (λ (b : i ≤ j). omega arith)
+          (lt-or-ge j i))
+          (lt-or-ge i j)

@@ -9,12 +9,11 @@ use lib.Dec.{eqb}
 use native.Mathlib.Omega.{arith}
 use native.Mathlib.Nat.{eq-or-lt-of-le}
 use Rattle.sections.specs.Order.{Rises}
-use Rattle.sections.specs.Walk.{Under, Past}
 use Rattle.sections.proofs.First.{first-good}
 use Rattle.sections.proofs.Order.{rise-keep}
 use Rattle.sections.proofs.Search.{lt-or-ge}
 use Rattle.sections.proofs.Total.{total-zero, total-rest, keyed-miss}
-use Rattle.records.specs.Facts.{ConstraintRule, UnitRule}
+use Rattle.records.specs.Facts.{ConstraintRule}
 use Rattle.records.specs.declared.rows.Constraint.{Constraint}
 use Rattle.records.specs.declared.rows.UnitRow.{UnitRow}
 use Rattle.records.proofs.Rule.{unit-rules, units-rise}
@@ -25,7 +24,7 @@ use Rattle.factors.specs.declared.sums.Sums.{Sums}
 use Rattle.factors.proofs.Runs.{factors-is}
 use Rattle.factors.proofs.Said.{owner-of, whole-of, plain-of}
 use Rattle.quick.specs.Holds.{unitsHold}
-use Rattle.quick.specs.Units.{Followed, Taken, settled}
+use Rattle.quick.specs.Units.{Taken, settled}
 use Rattle.quick.proofs.Said.{same-answer, never-holds, no-yes, UnitsHold, units-say, units-said}
 use Rattle.quick.proofs.UnitTurns.{Small, Settled, settled-says, settled-said}
 use Rattle.quick.proofs.UnitWalk.{Passed, passed-start, passed-under, passed-more, passed-all}
@@ -131,7 +130,7 @@ module _ (con : ℕ → Constraint) (n : ℕ) (row : ℕ → UnitRow) (m : ℕ) 
     exactly-next : Settled (con j) t u → Exactly (j + 1) (t .next)
     exactly-next g =
         record {
-          passed = passed-more con n row m j u s l c (p .passed) h g;
+          passed = passed-more con n row m s j u l c (p .passed) h g;
           ahead = λ w i a b q e. ⊎-elim (λ (z : j ≡ q). absurd (behind w i a b (rw (← z) at (sym e)))) (λ (z : j < q). omega arith) (eq-or-lt-of-le (p .ahead w i (omega (arith, h .along .low)) b q e));
         }
 

@@ -95,8 +95,8 @@ module _ (con : ℕ → Constraint) (n : ℕ) (row : ℕ → UnitRow) (m : ℕ) 
         total-rest _ u (t .next) (h .along .low) (λ v b d. keyed-miss (keyOf row) (con i .id) (λ w. f (row w)) v
         (λ (q : keyOf row v ≡ con i .id). omega (arith, h .along .each v b d .same, s .rise i j a l)))
 
-    passed-next : Passed (j + 1) (t .next)
-    passed-next =
+    pub passed-more : Passed (j + 1) (t .next)
+    passed-more =
         record {
           high = h .along .high;
           own = both (Owner con (j + 1) row) wider own-of;
@@ -106,9 +106,6 @@ module _ (con : ℕ → Constraint) (n : ℕ) (row : ℕ → UnitRow) (m : ℕ) 
               (λ i a. rw (kept (λ r. r .plus) i a, kept (λ r. r .minus) i a, kept (λ r. r .dcf) i a) at (p .sums i a))
               (rw (h .along .plus, h .along .minus, h .along .dcf) at (g .sums));
         }
-
-  pub passed-more : (j u : ℕ) {t : Sums} → Rises (idOf con) n → j < n → ConstraintRule (con j) → Passed j u → Taken row m (con j .id) u t → Settled (con j) t u → Passed (j + 1) (t .next)
-  passed-more j u s l c p h g = passed-next s j u l c p h g
 
   -- all constraints passed, and all rows taken
   pub passed-all : (j u : ℕ) → Passed j u → j ≡ n → u ≡ m → UnitsHold con n row m
