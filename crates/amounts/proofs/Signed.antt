@@ -1,5 +1,5 @@
--- What is credited less what is charged is the signed product, rounded with its sign kept: 01's "round(pool x factor / 1,000,000)" and
--- "round(pool x own / total)" for numbers of either sign. Assumes nothing.
+-- What is credited less what is charged, where one of the two is nothing: a rounded share of one side, with its sign. (The guide's signed
+-- products stand in the crate guide.) Assumes nothing.
 use Prim.Native.Nat.{ℕ, _+_, _*_, _≤_}
 use mathlib.Core.Path.{_≡_, refl, sym, subst, ap, _∙_}
 use mathlib.Core.Bool.{Bool, true, false, _||_}
@@ -8,9 +8,9 @@ use lib.Dec.{T, eqb}
 use lib.IntN.{pos, negℤ, +ℤ-idl, +ℤ-idr}
 use native.Mathlib.Nat.{mul-zero, zero-mul, zero-add, add-zero}
 use native.Mathlib.Omega.{arith}
-use Rattle.ground.specs.Round.{roundN, roundZ}
+use Rattle.ground.specs.Round.{roundN}
 use Rattle.ground.specs.Sign.{signed, less}
-use Rattle.ground.proofs.Rounding.{round-zero, round-signed}
+use Rattle.ground.proofs.Rounding.{round-zero}
 use Rattle.amounts.specs.Shares.{byFactor, byEnergy}
 
 -- nothing charged, and nothing credited
@@ -30,27 +30,14 @@ less-none a n d e = ap (less (roundN a d)) (none-of n d e) ∙ credit-only (roun
 none-less : (a n d : ℕ) → n ≡ 0 → less (roundN n d) (roundN a d) ≡ negℤ (pos (roundN a d))
 none-less a n d e = ap (λ (k : ℕ). less k (roundN a d)) (none-of n d e) ∙ charge-only (roundN a d)
 
-credited : (a n d : ℕ) → n ≡ 0 → less (roundN a d) (roundN n d) ≡ roundZ (signed false a) d
-credited a n d e = less-none a n d e
-
-charged : (a n d : ℕ) → n ≡ 0 → less (roundN n d) (roundN a d) ≡ roundZ (signed true a) d
-charged a n d e = none-less a n d e ∙ sym (round-signed true a d)
-
-pub factor-above : (pool plus : ℕ) → byFactor pool plus 0 ≡ roundZ (signed false (pool * plus)) 1000000
+-- a factor that is not above 0, and a pool of which nothing is credited
+pub factor-below : (pool minus : ℕ) → byFactor pool 0 minus ≡ signed true (roundN (pool * minus) 1000000)
 unfolding byFactor
-factor-above pool plus = credited (pool * plus) (pool * 0) 1000000 (mul-zero pool)
+factor-below pool minus = none-less (pool * minus) (pool * 0) 1000000 (mul-zero pool)
 
-pub factor-below : (pool minus : ℕ) → byFactor pool 0 minus ≡ roundZ (signed true (pool * minus)) 1000000
-unfolding byFactor
-factor-below pool minus = charged (pool * minus) (pool * 0) 1000000 (mul-zero pool)
-
-pub credit-shared : (credit own total : ℕ) → byEnergy credit 0 own total ≡ roundZ (signed false (credit * own)) total
+pub charge-shared : (charge own total : ℕ) → byEnergy 0 charge own total ≡ signed true (roundN (charge * own) total)
 unfolding byEnergy
-credit-shared credit own total = credited (credit * own) (0 * own) total (zero-mul own)
-
-pub charge-shared : (charge own total : ℕ) → byEnergy 0 charge own total ≡ roundZ (signed true (charge * own)) total
-unfolding byEnergy
-charge-shared charge own total = charged (charge * own) (0 * own) total (zero-mul own)
+charge-shared charge own total = none-less (charge * own) (0 * own) total (zero-mul own)
 
 -- a pool of one side at most is no larger than that side, and its part is one rounded share with the side's sign
 pub side-small : (credit charge m : ℕ) → (eqb credit 0 || eqb charge 0) ≡ true → credit ≤ m → charge ≤ m → credit + charge ≤ m

@@ -1,7 +1,7 @@
--- Checks 8 and 9 pass a record exactly where the sums of whole numbers with their signs are what 01 says: the tests add up sizes, and sizes
--- add up as the numbers do. Assumes nothing.
-use Prim.Native.Nat.{ℕ, zero, suc, _+_, _≤_, _<_}
-use mathlib.Core.Path.{_≡_, refl, sym, ap, ap₂, _∙_}
+-- Check 5's tests of sizes pass exactly the numbers in 01's ranges, and checks 8 and 9 a record exactly where the sums of whole numbers with
+-- their signs are what 01 says: the tests add up sizes, and sizes add up as the numbers do. Assumes nothing.
+use Prim.Native.Nat.{ℕ, zero, suc, _+_, _*_, _≤_, _<_, _^_}
+use mathlib.Core.Path.{_≡_, refl, sym, ap, ap₂, subst, _∙_}
 use mathlib.Core.Bool.{Bool, true, false, _&&_, _||_, not}
 use mathlib.Core.List.{List, [], _∷_}
 use mathlib.Core.Logic.{_↔_, _⊎_, inl, inr, ⊎-elim}
@@ -9,29 +9,36 @@ use native.Mathlib.Omega.{arith}
 use borrow.Author.Tests.{eqb-true, eq-eqb}
 use lib.Dec.{eqb}
 use lib.IntN.{ℤ, pos, negℤ, _+ℤ_}
-use Rattle.ground.specs.Bytes.{AreBytes}
+use mir.Syntax.{w32, w64}
+use mir.Val.{toZ}
+use mir.Facts.{toZ-pos}
+use Rattle.ground.specs.Bytes.{u32At, u64At, partFrom, AreBytes}
 use Rattle.ground.specs.Every.{allOf, Every}
 use Rattle.ground.specs.Sign.{less}
+use Rattle.ground.specs.Sizes.{sizeOf, plusOf, minusOf, Sides, above, below, InRange}
 use Rattle.ground.proofs.Every.{every, all}
-use Rattle.ground.proofs.Sizes.{less-plus, less-zero, zero-less}
+use Rattle.ground.proofs.Back.{u32-small}
+use Rattle.ground.proofs.Part.{part-bytes}
+use Rattle.ground.proofs.Sizes.{minus-is, minus-to-zero, zero-to, either-way, less-plus, less-zero, zero-less}
 use Rattle.sections.specs.Total.{total, keyed, totalOf}
 use Rattle.sections.specs.declared.Verdict.the-variants.{Accepted}
 use Rattle.sections.proofs.Search.{all-each, all-of}
-use Rattle.records.specs.Rows.{constraintRow, unitRow, energyRow}
+use Rattle.records.specs.Rows.{entryRow, constraintRow, unitRow, energyRow, contractRow}
 use Rattle.records.specs.declared.rows.Constraint.{Constraint}
 use Rattle.records.specs.declared.rows.UnitRow.{UnitRow}
 use Rattle.factors.specs.Naming.{keyOf}
 use Rattle.factors.specs.Factors.{factorsOk, sumOver, noFactor, factorsAt}
 use Rattle.totals.specs.Sums.{regionOf, aceOf, asoeOf, residualOf, entryTests, entryAt}
-use Rattle.book.specs.Header.{headerOf}
+use Rattle.book.specs.Header.{headerOf, unitsFrom, energiesFrom, contractsFrom}
 use Rattle.book.specs.Book.{bookOf}
 use Rattle.book.specs.Facts.{Fields}
 use Rattle.book.specs.Table.{check5}
 use Rattle.book.proofs.Steps.{fields-of}
 use Rattle.guide.specs.Numbers.{min0, million}
-use Rattle.guide.specs.Signed.{SignedConstraint, constraintAt, unitAt, energyAt, te, signedBook}
-use Rattle.guide.specs.Checks.{unitSum, FactorSums, regionSum, EntrySums}
-use Rattle.guide.proofs.Numbers.{Sides, above, below, sides-less, sides-min0, minus-plus, sum-pos, sum-minus, sum-less, pos-back, minus-back}
+use Rattle.guide.specs.Signed as signed
+use Rattle.guide.specs.Signed.{SignedConstraint, constraintAt, unitAt, energyAt, contractAt, te, signedBook}
+use Rattle.guide.specs.Checks.{RangesAgree, unitSum, FactorSums, regionSum, EntrySums}
+use Rattle.guide.proofs.Numbers.{sides-less, sides-min0, minus-plus, sum-pos, sum-minus, sum-less, pos-back, minus-back}
 use Rattle.guide.proofs.Sized.{SizedConstraint, sized-entry, sized-constraint, sized-unit, sized-energy}
 
 -- ---- a test of sizes, and the numbers
@@ -57,6 +64,58 @@ no-sides {x} {m} {n} s = (there s, back s)
     back : Sides x m n → x ≡ pos 0 → eqb m 0 && eqb n 0 ≡ true
     back (above e f) q = all (eqb m 0 ∷ eqb n 0 ∷ []) (eq-eqb m 0 (pos-back m 0 (sym e ∙ q)), (eq-eqb n 0 f, tt))
     back (below e f) q = all (eqb m 0 ∷ eqb n 0 ∷ []) (eq-eqb m 0 f, (eq-eqb n 0 (minus-back n 0 (sym e ∙ q)), tt))
+
+-- ---- check 5
+
+module _ (s : List ℕ) (a : AreBytes s) (k : ℕ) where
+  up-to-zero : (limit : ℕ) → limit < 2 ^ 31 → (sizeOf (u32At s k) ≤ limit) ↔ InRange (negℤ (pos limit)) (pos 0) (toZ w32 (u32At s k))
+  up-to-zero limit l = minus-to-zero limit (u32At s k) l (u32-small s a k)
+
+  from-zero : (limit : ℕ) → limit < 2 ^ 31 → (u32At s k ≤ limit) ↔ InRange (pos 0) (pos limit) (toZ w32 (u32At s k))
+  from-zero limit l = zero-to w32 limit (u32At s k) l
+
+  either : (limit : ℕ) → ((plusOf (u32At s k) ≤ limit) × (minusOf (u32At s k) ≤ limit)) ↔ InRange (negℤ (pos limit)) (pos limit) (toZ w32 (u32At s k))
+  either limit = either-way limit (u32At s k) (u32-small s a k)
+
+  -- from or up to the number that stands at another place
+  up-from : (m : ℕ) → sizeOf (u32At s m) ≤ 20000000 → (sizeOf (u32At s k) ≤ sizeOf (u32At s m)) ↔ InRange (toZ w32 (u32At s m)) (pos 0) (toZ w32 (u32At s k))
+  up-from m l =
+      subst (λ (x : ℤ). (sizeOf (u32At s k) ≤ sizeOf (u32At s m)) ↔ InRange x (pos 0) (toZ w32 (u32At s k))) (sym (minus-is (u32At s m) (u32-small s a m) (omega arith)))
+      (up-to-zero (sizeOf (u32At s m)) (omega arith))
+
+  up-to : (m : ℕ) → u32At s m ≤ 20000000 → (u32At s k ≤ u32At s m) ↔ InRange (pos 0) (toZ w32 (u32At s m)) (toZ w32 (u32At s k))
+  up-to m l =
+      let h : u32At s m < 2 ^ 31 = omega arith in
+      subst (λ (x : ℤ). (u32At s k ≤ u32At s m) ↔ InRange (pos 0) x (toZ w32 (u32At s k))) (sym (toZ-pos w32 h)) (from-zero (u32At s m) h)
+
+-- for all bytes, check 5's tests of numbers that have a sign pass exactly 01's ranges
+pub check-5-is-the-guides : (b : List ℕ) → AreBytes b → RangesAgree (bookOf b) (signedBook b)
+unfolding entryRow signed.entryAt constraintRow constraintAt unitRow unitAt energyRow energyAt contractRow contractAt
+check-5-is-the-guides b a =
+    let s₁ = partFrom 24 b in
+    let s₂ = partFrom 84 b in
+    let s₃ = partFrom (unitsFrom (headerOf b)) b in
+    let s₄ = partFrom (energiesFrom (headerOf b)) b in
+    let s₅ = partFrom (contractsFrom (headerOf b)) b in
+    let a₁ = part-bytes 24 b a in
+    let a₂ = part-bytes 84 b a in
+    let a₃ = part-bytes (unitsFrom (headerOf b)) b a in
+    let a₄ = part-bytes (energiesFrom (headerOf b)) b a in
+    record {
+      totalAce = λ g. up-to-zero s₁ a₁ (g * 12) 20000000 (omega arith);
+      totalAsoe = λ g. from-zero s₁ a₁ (g * 12 + 4) 20000000 (omega arith);
+      residual = λ g. from-zero s₁ a₁ (g * 12 + 8) 20000000 (omega arith);
+      cost = λ j. zero-to w64 50000000000 (u64At s₂ (j * 40 + 8)) (omega arith);
+      rcf = λ j. either s₂ a₂ (j * 40 + 28) 1000000;
+      drcf = λ j. up-to-zero s₂ a₂ (j * 40 + 32) 1000000 (omega arith);
+      cf = λ u. either s₃ a₃ (u * 20 + 12) 1000000;
+      dcf = λ u. up-to-zero s₃ a₃ (u * 20 + 16) 1000000 (omega arith);
+      ace = λ i. up-to-zero s₄ a₄ (i * 24 + 8) 20000000 (omega arith);
+      asoe = λ i. from-zero s₄ a₄ (i * 24 + 12) 20000000 (omega arith);
+      restAce = λ i l. up-from s₄ a₄ (i * 24 + 16) (i * 24 + 8) l;
+      restAsoe = λ i l. up-to s₄ a₄ (i * 24 + 20) (i * 24 + 12) l;
+      payment = λ k. zero-to w64 50000000000 (u64At s₅ (k * 36 + 8)) (omega arith);
+    }
 
 -- ---- check 8
 

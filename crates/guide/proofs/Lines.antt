@@ -27,7 +27,7 @@ use Rattle.settlement.specs.Settle.{ofConstraint, regionLines}
 use Rattle.guide.specs.Numbers.{round, million}
 use Rattle.guide.specs.Signed.{Energies, SignedConstraint, SignedUnit, SignedContract}
 use Rattle.guide.specs.Guide as guide
-use Rattle.guide.proofs.Numbers.{sides-min0, only-below, factor-sides, factor-below, by-factor, by-energy, charge-sent, charge-consumed, rest-is, sum-pos, sum-minus}
+use Rattle.guide.proofs.Numbers.{sides-min0, only-below, factor-sides, factor-minus, by-factor, by-energy, charge-sent, charge-consumed, rest-is, sum-pos, sum-minus}
 use Rattle.guide.proofs.Sized.{SizedEnergies, SizedConstraint, SizedUnit, SizedContract}
 
 -- a line from its fields
@@ -109,7 +109,7 @@ module _ (r : Constraint) (z : SignedConstraint) (s : SizedConstraint r z) (h : 
         (λ bare. ap₂ _∷_ (unused-line (unused-two (two live bare))) refl)
 
     -- where the account owns the unit and the row names the constraint
-    pub own-unit : (account : ℕ) → (r .mode ≡ 0 → ⊥) → cond (eqb (q .account) account) (ofConstraint r q) [] ≡ cond (eqb (w .account) account) (cond (eqb (w .constraint) (z .id)) (guide.unitLines z w) []) []
+    pub own-unit : (account : ℕ) → (r .mode ≡ 0 → ⊥) → cond (eqb (q .account) account) (ofConstraint r q) [] ≡ guide.ownUnit account z w
     unfolding ofConstraint
     own-unit account live = chosen account (u .account) (λ e. named (u .constraint) (s .id) (unit-lines live)) (λ e. refl)
 
@@ -184,7 +184,7 @@ module _ (r : Constraint) (z : SignedConstraint) (s : SizedConstraint r z) (h : 
       unfolding residualOf guide.restLine
       unused-rest e =
           line-same 8 (sym (s .id)) (sym (s .mask)) refl
-          (by-energy (only-below (roundN (poolsOf r .unused * r .drcf) 1000000) (factor-below (r .drcf) (s .drcf) e)) own-te all-te)
+          (by-energy (only-below (roundN (poolsOf r .unused * r .drcf) 1000000) (factor-minus (r .drcf) (s .drcf) e)) own-te all-te)
 
       pub rest-lines : restLines r (residualOf r (poolsOf r)) (divisorOf own r) (divisorOf all r) ≡ guide.restLines allZ ownZ z
       unfolding residualOf restLines guide.restLine guide.restLines
@@ -194,7 +194,7 @@ module _ (r : Constraint) (z : SignedConstraint) (s : SizedConstraint r z) (h : 
           ap₂ _∷_ (line-same 6 (sym (s .id)) (sym (s .mask)) refl (by-energy (factor-sides (s .rcf) (fpp-pool m)) own-te all-te))
           (ap₂ _∷_
           (line-same 7 (sym (s .id)) (sym (s .mask)) refl
-          (by-energy (only-below (roundN (poolsOf r .used * r .minus) 1000000) (factor-below (r .minus) (sides-min0 (s .rcf)) (used-pool m))) own-te all-te))
+          (by-energy (only-below (roundN (poolsOf r .used * r .minus) 1000000) (factor-minus (r .minus) (sides-min0 (s .rcf)) (used-pool m))) own-te all-te))
           (ap₂ _∷_ (unused-rest (unused-one m)) refl)))
           (λ bare. ap₂ _∷_ (unused-rest (unused-two (two live bare))) refl)
 

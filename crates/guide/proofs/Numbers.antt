@@ -8,7 +8,8 @@ use native.Mathlib.Nat.{mul-zero, zero-mul, mul-comm, div-zero, le-refl}
 use borrow.Author.Tests.{le-ltb}
 use lib.IntN.{ℤ, pos, negsuc, negℤ, natAbs, _+ℤ_, _-ℤ_, _*ℤ_, +ℤ-idl, +ℤ-idr, negℤ-negℤ, negℤ-+ℤ, *ℤ-comm}
 use Rattle.ground.specs.Round.{roundN, roundZ}
-use Rattle.ground.specs.Sign.{signed, less}
+use Rattle.ground.specs.Sign.{less}
+use Rattle.ground.specs.Sizes.{Sides, above, below}
 use Rattle.ground.proofs.Rounding.{round-zero, round-signed}
 use Rattle.ground.proofs.Signs.{size-signed}
 use Rattle.ground.proofs.Sizes.{less-plus}
@@ -18,11 +19,6 @@ use Rattle.amounts.proofs.Signed.{charge-shared}
 use Rattle.guide.specs.Numbers.{sum, round, min0, million}
 
 -- ---- a number by its two sides
-
--- a is how far z lies above 0, and b how far below: one of them is 0
-pub data Sides (z : ℤ) (a b : ℕ) : Type 0 where
-  above : z ≡ pos a → b ≡ 0 → Sides z a b
-  below : z ≡ negℤ (pos b) → a ≡ 0 → Sides z a b
 
 module _ {z : ℤ} {a b : ℕ} where
   pub sides-less : Sides z a b → z ≡ less a b
@@ -72,9 +68,9 @@ module _ {z : ℤ} {a b : ℕ} (s : Sides z a b) where
   energy-sides {own = own} {total = total} e f =
       rw (e, f, *ℤ-comm z (pos own), mul-comm a own, mul-comm b own) (rounded total (times own s))
 
-pub factor-below : (b : ℕ) {z p : ℤ} {pool : ℕ} → z ≡ negℤ (pos b) → p ≡ pos pool → round (p *ℤ z) million ≡ negℤ (pos (roundN (pool * b) 1000000))
+pub factor-minus : (b : ℕ) {z p : ℤ} {pool : ℕ} → z ≡ negℤ (pos b) → p ≡ pos pool → round (p *ℤ z) million ≡ negℤ (pos (roundN (pool * b) 1000000))
 unfolding round
-factor-below b {pool = pool} e f = rw (e, f) (ap (λ (x : ℤ). roundZ x 1000000) (times-minus pool b) ∙ round-signed true (pool * b) 1000000)
+factor-minus b {pool = pool} e f = rw (e, f) (ap (λ (x : ℤ). roundZ x 1000000) (times-minus pool b) ∙ round-signed true (pool * b) 1000000)
 
 pub by-factor : {z p : ℤ} {a b pool : ℕ} → Sides z a b → p ≡ pos pool → byFactor pool a b ≡ round (p *ℤ z) million
 unfolding byFactor
@@ -91,17 +87,14 @@ share-below c o zero = ap (λ (x : ℤ). roundZ x 0) (times-minus c o) ∙ round
 share-below c o (suc t) =
     ap (λ (x : ℤ). roundZ (negℤ x) (suc t)) (times-minus c o) ∙ ap (λ (x : ℤ). roundZ x (suc t)) (negℤ-negℤ (pos (c * o)))
 
-charged : (c o t : ℕ) → byEnergy 0 c o t ≡ negℤ (pos (roundN (c * o) t))
-charged c o t = charge-shared c o t ∙ round-signed true (c * o) t
-
 -- "-round(cost x own / total)", by ASOE and by ACE
 module _ {x y w : ℤ} {c : ℕ} (e : x ≡ pos c) (o t : ℕ) where
   pub charge-sent : y ≡ pos o → w ≡ pos t → byEnergy 0 c o t ≡ negℤ (round (x *ℤ y) w)
   unfolding round
-  charge-sent f g = rw (e, f, g) (charged c o t)
+  charge-sent f g = rw (e, f, g) (charge-shared c o t)
 
   pub charge-consumed : y ≡ negℤ (pos o) → w ≡ negℤ (pos t) → byEnergy 0 c o t ≡ negℤ (round (x *ℤ y) w)
-  charge-consumed f g = rw (e, f, g) (charged c o t ∙ ap negℤ (sym (share-below c o t)))
+  charge-consumed f g = rw (e, f, g) (charge-shared c o t ∙ ap negℤ (sym (share-below c o t)))
 
 -- a smaller number taken from a larger one
 pub rest-is : {x y : ℤ} {a b : ℕ} → x ≡ pos a → y ≡ pos b → b ≤ a → x -ℤ y ≡ pos (a - b)

@@ -1,22 +1,20 @@
 -- The records by their sizes and the records with their signs say the same of the same bytes, where each keeps its rule (check 5).
 -- Assumes nothing.
-use Prim.Native.Nat.{ℕ, zero, suc, _+_, _-_, _*_, _≤_, _<_, _^_}
-use mathlib.Core.Path.{_≡_, refl, sym, ap, ap₂, _∙_}
-use mathlib.Core.Bool.{Bool, true, false, cond}
+use Prim.Native.Nat.{ℕ, zero, suc, _+_, _*_, _<_, _^_}
+use mathlib.Core.Path.{_≡_, refl, ap, ap₂, _∙_}
+use mathlib.Core.Bool.{true}
 use mathlib.Core.List.{List}
 use native.Mathlib.Omega.{arith}
-use borrow.Author.Tests.{ltb-false}
-use lib.Dec.{ltb}
-use lib.IntN.{ℤ, pos, negsuc, negℤ, natAbs}
+use lib.IntN.{ℤ, pos, negℤ, natAbs}
 use mir.Syntax.{w32, w64}
 use mir.Val.{toZ}
 use mir.Facts.{toZ-pos}
 use Rattle.ground.specs.Bytes.{u32At, u64At, partFrom, AreBytes}
-use Rattle.ground.specs.Sizes.{sizeOf, plusOf, minusOf}
+use Rattle.ground.specs.Sizes.{sizeOf, plusOf, minusOf, Sides}
 use Rattle.ground.proofs.Back.{u32-small}
 use Rattle.ground.proofs.Part.{part-bytes}
 use Rattle.ground.proofs.Signs.{size-signed}
-use Rattle.ground.proofs.Sizes.{minus-to-zero}
+use Rattle.ground.proofs.Sizes.{sides-of, minus-is}
 use Rattle.records.specs.Rows.{entryRow, constraintRow, unitRow, energyRow, contractRow}
 use Rattle.records.specs.Rules.{factorOf}
 use Rattle.records.specs.Facts.{EntryRule, ConstraintRule, UnitRule, EnergyRule, ContractRule}
@@ -29,7 +27,6 @@ use Rattle.book.specs.Header.{headerOf, unitsFrom, energiesFrom, contractsFrom}
 use Rattle.book.specs.Book.{bookOf}
 use Rattle.book.specs.Facts.{Fields}
 use Rattle.guide.specs.Signed.{Energies, entryAt, SignedConstraint, constraintAt, SignedUnit, unitAt, SignedEnergy, energyAt, te, SignedContract, contractAt, signedBook}
-use Rattle.guide.proofs.Numbers.{Sides, above, below}
 
 -- ---- what it means, field by field
 
@@ -71,21 +68,9 @@ pub record SizedContract (k : Contract) (z : SignedContract) : Type 0 where
 
 -- ---- one number
 
--- a number of 32 bits is its sizes
-sides-of : (w : ℕ) → w < 2 ^ 32 → Sides (toZ w32 w) (plusOf w) (minusOf w)
-unfolding plusOf minusOf
-sides-of w h = by (ltb w 2147483648) refl
-  where
-    by : (t : Bool) → ltb w 2147483648 ≡ t → Sides (cond t (pos w) (negsuc (4294967296 - suc w))) (cond t w 0) (cond t 0 (sizeOf w))
-    by true e = above refl refl
-    by false e =
-        let l = ltb-false w 2147483648 e in
-        let k : sizeOf w ≡ suc (4294967296 - suc w) = omega arith in
-        below (rw k refl) refl
-
 module _ (s : List ℕ) (b : AreBytes s) (k : ℕ) where
-  minus-at : (limit : ℕ) → limit < 2 ^ 31 → sizeOf (u32At s k) ≤ limit → toZ w32 (u32At s k) ≡ negℤ (pos (sizeOf (u32At s k)))
-  minus-at limit l h = minus-to-zero limit (u32At s k) l (u32-small s b k) .in-range h .is
+  minus-at : sizeOf (u32At s k) < 2 ^ 31 → toZ w32 (u32At s k) ≡ negℤ (pos (sizeOf (u32At s k)))
+  minus-at h = minus-is (u32At s k) (u32-small s b k) h
 
   plus-at : u32At s k < 2 ^ 31 → toZ w32 (u32At s k) ≡ pos (u32At s k)
   plus-at h = toZ-pos w32 h
@@ -107,7 +92,7 @@ module _ (s : List ℕ) (b : AreBytes s) where
   unfolding entryRow entryAt
   entry-sized g r =
       record {
-        ace = minus-at s b (g * 12) 20000000 (omega arith) (r .ace);
+        ace = minus-at s b (g * 12) (omega (arith, r .ace));
         asoe = plus-at s b (g * 12 + 4) (omega (arith, r .asoe));
         residual = plus-at s b (g * 12 + 8) (omega (arith, r .residual));
       }
@@ -125,7 +110,7 @@ module _ (s : List ℕ) (b : AreBytes s) where
         rcr = refl;
         usage = refl;
         rcf = side-at s b (i * 40 + 28);
-        drcf = minus-at s b (i * 40 + 32) 1000000 (omega arith) (r .drcf);
+        drcf = minus-at s b (i * 40 + 32) (omega (arith, r .drcf));
       }
 
   unit-sized : (i : ℕ) → UnitRule (unitRow s i) → SizedUnit (unitRow s i) (unitAt s i)
@@ -136,7 +121,7 @@ module _ (s : List ℕ) (b : AreBytes s) where
         unit = refl;
         account = refl;
         cf = side-at s b (i * 20 + 12);
-        dcf = minus-at s b (i * 20 + 16) 1000000 (omega arith) (r .dcf);
+        dcf = minus-at s b (i * 20 + 16) (omega (arith, r .dcf));
       }
 
   energy-sized : (i : ℕ) → EnergyRule (energyRow s i) → SizedEnergy (energyRow s i) (energyAt s i)
@@ -145,9 +130,9 @@ module _ (s : List ℕ) (b : AreBytes s) where
       record {
         account = refl;
         region = refl;
-        ace = minus-at s b (i * 24 + 8) 20000000 (omega arith) (r .ace);
+        ace = minus-at s b (i * 24 + 8) (omega (arith, r .ace));
         asoe = plus-at s b (i * 24 + 12) (omega (arith, r .asoe));
-        residual = te-is _ _ _ _ (minus-at s b (i * 24 + 16) 20000000 (omega arith) (omega (arith, r .race, r .ace))) (plus-at s b (i * 24 + 20) (omega (arith, r .rasoe, r .asoe)));
+        residual = te-is _ _ _ _ (minus-at s b (i * 24 + 16) (omega (arith, r .race, r .ace))) (plus-at s b (i * 24 + 20) (omega (arith, r .rasoe, r .asoe)));
       }
 
   contract-sized : (i : ℕ) → ContractRule (contractRow s i) → SizedContract (contractRow s i) (contractAt s i)

@@ -1,6 +1,7 @@
 -- The lines of an account as 01 (The amounts, The statement) and AEMO's Settlements Guide print them, over whole numbers with their signs:
 -- amounts that an account must pay are negative, and so are ACE and the factors of those who pay. proofs/Guide.antt shows that the lines of
--- every accepted book's statement are these. Over each line is the sentence of 01 and the formula of document 000 (or 003) with its section.
+-- every accepted book's statement are these. Over each line is the sentence of 01 and the formula of document 000 (or 001 to 003) with its
+-- section; what 000 multiplies out, 01 rounds stage by stage.
 use Prim.Native.Nat.{ℕ, _^_}
 use mathlib.Core.Bool.{_&&_, cond}
 use mathlib.Core.List.{List, [], _∷_, _++_}
@@ -57,7 +58,8 @@ abbrev pub lineOf : SignedConstraint → ℕ → ℕ → ℤ → Line
 lineOf r part unit amount = record { id = r .id; part = part; regions = r .mask; unit = unit; amount = amount }
 
 -- "Contingency: -round(cost x own / total), ASOE for raise, ACE for lower, both summed over the constraint's regions."
--- 000, 2.4.2: TA = [TRCR × (TSOE / RATSOE)] × -1. 000, 2.4.1: TA = [TLCR × (TCE / RATCE)] × -1
+-- 000, 2.4.2: TA = [TRCR × (TSOE / RATSOE)] × -1. 000, 2.4.1: TA = [TLCR × (TCE / RATCE)] × -1. 001, 2.1.2: raise from those "with ASOE values
+-- only", lower from those "with ACE values only"
 unfoldable pub contingencyShare : SignedConstraint → (ℕ → ℤ) → (ℕ → ℤ) → ℤ
 contingencyShare r own total = negℤ (round (r .cost *ℤ over r own) (over r total))
 
@@ -96,12 +98,15 @@ module _ (total own : ℕ → Energies) (r : SignedConstraint) where
       (restLine 6 (fppPool r) (r .rcf) ∷ restLine 7 (usedPool r) (min0 (r .rcf)) ∷ restLine 8 (unusedPool r) (r .drcf) ∷ [])
       (restLine 8 (unusedPool r) (r .drcf) ∷ [])
 
+-- a unit's lines, where the row is the account's and names the constraint
+abbrev pub ownUnit : ℕ → SignedConstraint → SignedUnit → List Line
+ownUnit account r q = cond (eqb (q .account) account) (cond (eqb (q .constraint) (r .id)) (unitLines r q) []) []
+
 -- "for mode 0 one line, 1 or 2; else own units in row order .., then 6, 7, 8"
 unfoldable pub constraintLines : SignedBook → ℕ → SignedConstraint → List Line
 constraintLines S account r =
     cond (eqb (r .mode) 0) (contingencyLine (S .entry) (ownIn S account) r ∷ [])
-    (joined (λ u. cond (eqb (S .unit u .account) account) (cond (eqb (S .unit u .constraint) (r .id)) (unitLines r (S .unit u)) []) []) (S .header .units)
-    ++ restLines (S .entry) (ownIn S account) r)
+    (joined (λ u. ownUnit account r (S .unit u)) (S .header .units) ++ restLines (S .entry) (ownIn S account) r)
 
 -- ---- a contract's lines
 

@@ -14,7 +14,7 @@ unfoldable pub round : ℤ → ℤ → ℤ
 round z (pos t) = roundZ z t
 round z (negsuc t) = roundZ (negℤ z) (suc t)
 
--- "min(0, CF)". 002: NCF = Min(0, CF)
+-- "min(0, CF)". 002, FPP calculations: NCF = Min(0, CF)
 unfoldable pub min0 : ℤ → ℤ
 min0 (pos n) = pos 0
 min0 (negsuc n) = negsuc n

@@ -1,6 +1,6 @@
 -- Every kind of line keeps the rules that a statement's reader asks of it, where its amount keeps the limit. Assumes nothing.
 use Prim.Native.Nat.{ℕ, zero, suc, _*_, _^_, _≤_, _<_}
-use mathlib.Core.Path.{_≡_, refl, _∙_}
+use mathlib.Core.Path.{_≡_, refl}
 use mathlib.Core.Bool.{Bool, true, false, cond, _||_}
 use mathlib.Core.List.{[], _∷_}
 use native.Mathlib.Omega.{arith}
@@ -10,7 +10,6 @@ use lib.IntN.{ℤ, natAbs}
 use Rattle.ground.specs.Round.{roundN}
 use Rattle.ground.specs.Sign.{signed, negative}
 use Rattle.ground.proofs.Every.{all}
-use Rattle.ground.proofs.Rounding.{round-signed}
 use Rattle.records.specs.Kinds.{raises}
 use Rattle.records.specs.Facts.{ConstraintRule}
 use Rattle.records.specs.declared.rows.Constraint.{Constraint}
@@ -56,12 +55,12 @@ charge-signed (suc n) = or-true (eqb (suc n) 0)
 
 energy-charged : (charge own total : ℕ) → (eqb (natAbs (byEnergy 0 charge own total)) 0 || negative (byEnergy 0 charge own total)) ≡ true
 energy-charged charge own total =
-    let e : byEnergy 0 charge own total ≡ signed true (roundN (charge * own) total) = charge-shared charge own total ∙ round-signed true (charge * own) total in
+    let e : byEnergy 0 charge own total ≡ signed true (roundN (charge * own) total) = charge-shared charge own total in
     rw e (charge-signed (roundN (charge * own) total))
 
 factor-charged : (pool minus : ℕ) → (eqb (natAbs (byFactor pool 0 minus)) 0 || negative (byFactor pool 0 minus)) ≡ true
 factor-charged pool minus =
-    let e : byFactor pool 0 minus ≡ signed true (roundN (pool * minus) 1000000) = factor-below pool minus ∙ round-signed true (pool * minus) 1000000 in
+    let e : byFactor pool 0 minus ≡ signed true (roundN (pool * minus) 1000000) = factor-below pool minus in
     rw e (charge-signed (roundN (pool * minus) 1000000))
 
 last-two : (a b c : Bool) → (b || c) ≡ true → (a || b || c) ≡ true
