@@ -2,7 +2,7 @@
 use Prim.Native.Nat.{ℕ}
 use mathlib.Core.List.{List, [], _∷_, _++_}
 use lib.IntN.{ℤ}
-use Rattle.ground.specs.Le.{le16, le32, le64, int32, int64}
+use Rattle.ground.specs.Le.{le16, le32, int32, int64}
 
 -- "the three letters RCB; reserved byte; 16-bit version 1; interval; date; run; counts of constraints, unit rows, energy rows, contracts; reserved u16"
 abbrev pub heading : ℕ → ℕ → ℕ → ℕ → ℕ → ℕ → ℕ → List ℕ

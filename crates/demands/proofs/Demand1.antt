@@ -1,7 +1,7 @@
 -- Demand 1: every input gets an answer, and a refusal leaves every byte. Each call's promise fixes its answer; by cases on what the rules fix for the
 -- input, it is one of the answers that the demand allows. Assumes nothing.
-use Prim.Native.Nat.{ℕ, _<_}
-use mathlib.Core.Path.{_≡_, refl, _∙_, ap}
+use Prim.Native.Nat.{ℕ}
+use mathlib.Core.Path.{_≡_, refl}
 use mathlib.Core.Bool.{Bool, true, false, cond}
 use mathlib.Core.List.{List}
 use mathlib.Core.Logic.{inl, inr}
@@ -25,16 +25,14 @@ use Rattle.rewriting.specs.Rewriting.{rewritten}
 use Rattle.settlement.specs.Settle.{outcome}
 use Rattle.balance.specs.Pools.{Found, past, found, poolsIn, poolAt}
 use Rattle.balance.specs.Balance.{answerTo, balancesIn, ifAccepted, balanceOf}
-use Rattle.balance.specs.declared.Balanced.{Balanced}
-use Rattle.balance.specs.declared.Balanced.the-variants as balanced
 use Rattle.fervolatro.specs.Answers.{verdictAnswer, writtenAnswer, headingAnswer, entryAnswer, poolAnswer, Called}
 use Rattle.fervolatro.specs.declared.VerdictAnswer.{VerdictAnswer}
 use Rattle.fervolatro.specs.declared.WrittenAnswer.{WrittenAnswer}
 use Rattle.fervolatro.specs.declared.HeadingAnswer.{HeadingAnswer}
 use Rattle.fervolatro.specs.declared.EntryAnswer.{EntryAnswer}
 use Rattle.fervolatro.specs.declared.PoolAnswer.{PoolAnswer}
-use Rattle.demands.specs.Demand1.{onABook, onABalance, onALine, onAHeader, onAStatement, onRewriting, OneOf, Answered, written, short, refused, CheckAnswered, PoolAnswered, HeadingAnswered, EntryAnswered, EveryInputIsAnswered}
-use Rattle.demands.proofs.Numbers.{Among, Within, verdict-numbers, outcome-numbers, rewritten-numbers, or-true}
+use Rattle.demands.specs.Demand1.{onABook, onABalance, onAStatement, onRewriting, OneOf, Answered, written, short, refused, CheckAnswered, PoolAnswered, HeadingAnswered, EntryAnswered, EveryInputIsAnswered}
+use Rattle.demands.proofs.Numbers.{Within, verdict-numbers, outcome-numbers, rewritten-numbers, or-true}
 
 -- ---- the calls that write
 

@@ -1,19 +1,19 @@
 -- Demand 2: every line is the guide's, every pool closes, and both round trips. Where a call does not refuse, the rules give what it answers, and that is
 -- the guide's by the theorems of the crates below. Assumes nothing.
-use Prim.Native.Nat.{ℕ, zero, suc, _+_, _*_, _≤_, _<_, _^_}
+use Prim.Native.Nat.{ℕ, _<_, _^_}
 use mathlib.Core.Path.{_≡_, refl, sym, ap, _∙_, fun-ext}
 use mathlib.Core.Bool.{Bool, true, false, cond}
 use mathlib.Core.List.{List}
 use native.Mathlib.Omega.{arith}
-use lib.Dec.{leb}
-use lib.IntN.{ℤ, pos, natAbs, _+ℤ_}
 use lib.ListN.{length}
-use Rattle.ground.specs.Bytes.{AreBytes, part}
+use Rattle.ground.specs.Bytes.{AreBytes}
 use Rattle.ground.proofs.Put.{put-there}
+use Rattle.sections.proofs.First.{first-each}
+use Rattle.sections.proofs.Refusal.{record-held, first-held}
 use Rattle.sections.specs.declared.Verdict.{Verdict}
 use Rattle.sections.specs.declared.Verdict.the-variants.{Accepted, Refused}
 use Rattle.book.specs.Book.{bookOf}
-use Rattle.book.specs.Table.{verdict}
+use Rattle.book.specs.Table.{verdict, check5, check6, check7, check8, check9}
 use Rattle.accounts.specs.Rows.{keep, sumOf}
 use Rattle.accounts.specs.Account.{publicOf, rowsOfAccount}
 use Rattle.parties.specs.Once.{has}
@@ -25,7 +25,7 @@ use Rattle.reading.specs.Calls.{headingRead, lineRead}
 use Rattle.reading.specs.declared.HeadingRead.the-variants as heading
 use Rattle.reading.proofs.Trip.{read-and-written}
 use Rattle.rewriting.specs.Rewriting.{rewritten}
-use Rattle.settlement.specs.Settle.{linesOf, headingOf, statementOf, outcome}
+use Rattle.settlement.specs.Settle.{headingOf, statementOf, outcome}
 use Rattle.balance.specs.Pools.{Pool, Found, past, found, poolsIn, poolAt, inPool}
 use Rattle.balance.specs.Balance.{sumZ, accountsOf, poolLines, lineCount, lineSum, balanceIn, answerTo, balancesIn, ifAccepted, balanceOf}
 use Rattle.balance.proofs.Closes.{every-pool-closes}
@@ -34,11 +34,13 @@ use Rattle.trips.proofs.Call.{passed}
 use Rattle.trips.proofs.Trip.{written-and-read}
 use Rattle.guide.specs.Guide.{guideLines}
 use Rattle.guide.proofs.Guide.{every-line-is-the-guides}
-use Rattle.fervolatro.specs.Answers.{headingAnswer, entryAnswer, poolAnswer, Called}
+use Rattle.guide.proofs.Checks.{check-8-is-the-guides, check-9-is-the-guides}
+use Rattle.fervolatro.specs.Answers.{verdictAnswer, headingAnswer, entryAnswer, poolAnswer}
+use Rattle.fervolatro.specs.declared.VerdictAnswer.{VerdictAnswer}
 use Rattle.fervolatro.specs.declared.WrittenAnswer.{WrittenAnswer}
 use Rattle.fervolatro.specs.declared.PoolAnswer.{PoolAnswer}
-use Rattle.demands.specs.Demand1.{OneOf, Gives, Answered, written, short, refused, onABook, onAStatement, onRewriting}
-use Rattle.demands.specs.Demand2.{guideStatement, numbered, front, StatementIsTheGuides, linesIn as poolLinesIn, halfUnits, PoolCloses, EveryLineIsTheGuides}
+use Rattle.demands.specs.Demand1.{OneOf, Gives, Answered, written, short, refused, onAStatement, onRewriting}
+use Rattle.demands.specs.Demand2.{SumsAreTheGuides, guideStatement, numbered, front, StatementIsTheGuides, PoolCloses, EveryLineIsTheGuides}
 use Rattle.demands.proofs.Numbers.{verdict-numbers}
 use Rattle.demands.proofs.Numbered.{line-numbered}
 use Rattle.demands.proofs.Demand1.{every-input-is-answered}
@@ -62,6 +64,31 @@ given numbers o l r x none (refused number place e h g) z = absurd (none (rw (sy
 -- what stands at the front
 front-is : (xs l : List ℕ) (r : WrittenAnswer) (x : List ℕ) → Gives xs l r x → front r x ≡ xs
 front-is xs l r x g = rw (g .answer, g .bytes) (put-there l 0 xs (omega (arith, g .room)))
+
+-- ---- the book
+
+-- an accepted book passed checks 5, 8 and 9
+sums-of : (b : List ℕ) → AreBytes b → verdict b ≡ Accepted → SumsAreTheGuides b
+unfolding verdict check8 check9
+sums-of b bytes v =
+    let c1 = first-held _ _ v in
+    let c2 = first-held _ _ (c1 .rest) in
+    let c3 = first-held _ _ (c2 .rest) in
+    let c4 = first-held _ _ (c3 .rest) in
+    let c5 = first-held (check5 (bookOf b)) _ (c4 .rest) in
+    let c6 = first-held (check6 (bookOf b)) _ (c5 .rest) in
+    let c7 = first-held (check7 (bookOf b)) _ (c6 .rest) in
+    let c8 = first-held (check8 (bookOf b)) _ (c7 .rest) in
+    let c9 = first-held (check9 (bookOf b)) _ (c8 .rest) in
+    record {
+      factors = λ j l. check-8-is-the-guides b bytes (c5 .here) j l .0 (first-each _ _ (record-held _ _ _ _ (c8 .here)) j l);
+      energies = λ g l. check-9-is-the-guides b bytes (c5 .here) g l .0 (first-each _ _ (record-held _ _ _ _ (c9 .here)) g l);
+    }
+
+book-sums : (b : List ℕ) → AreBytes b → (v : Verdict) → verdict b ≡ v → (r : VerdictAnswer) → r ≡ verdictAnswer v → r .refusal ≡ 0 → SumsAreTheGuides b
+unfolding verdictAnswer has
+book-sums b bytes Accepted v r a z = sums-of b bytes v
+book-sums b bytes (Refused k place) v r a z = never (rw (sym (ap (λ (w : VerdictAnswer). w .refusal) a) ∙ z) at (verdict-numbers b k place v))
 
 -- ---- the statement
 
@@ -142,6 +169,7 @@ pub every-line-and-pool-is-the-guides : EveryLineIsTheGuides
 unfolding balanceOf balancesIn has
 every-line-and-pool-is-the-guides =
     record {
+      check = λ b bytes r a z. book-sums b bytes (verdict b) refl r a z;
       statement = λ b bytes account small l r x c z.
           statement-is-the-guides b bytes account small l r x (given onAStatement (outcome b account) l r x never (every-input-is-answered .statement b account l r x c) z);
       balance = λ b bytes number r a z. balance-closes b bytes number (verdict b) refl (poolAt (poolsIn (publicOf (bookOf b))) number) refl r a z;

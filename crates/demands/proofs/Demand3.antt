@@ -3,8 +3,7 @@
 use Prim.Native.Nat.{ℕ}
 use mathlib.Core.Path.{_≡_, sym, _∙_}
 use mathlib.Core.List.{List}
-use Rattle.settlement.specs.Settle.{ifAccepted, settled, outcome}
-use Rattle.fervolatro.specs.Answers.{Called}
+use Rattle.settlement.specs.Settle.{outcome}
 use Rattle.demands.specs.Demand3.{Agree, NoNeighboursFigure}
 
 -- the outcome of one account is the same in both books

@@ -4,13 +4,11 @@
 -- account 9 has all the rest. In the second, accounts 9 and 10 have it, with a unit row and an energy row more. Assumes nothing.
 use Prim.Native.Nat.{ℕ}
 use mathlib.Core.Path.{_≡_, refl, ap}
-use mathlib.Core.Bool.{true, false}
 use mathlib.Core.List.{List, [], _∷_, _++_}
 use native.Mathlib.Omega.{arith}
 use lib.IntN.{ℤ}
 use lib.ListN.{length}
 use Rattle.ground.specs.Le.{le16, le32, le64, int32, int64}
-use Rattle.ground.specs.Sign.{signed}
 use Rattle.ground.specs.Sizes.{plusOf, minusOf}
 use Rattle.sections.specs.First.{andThen, firstBad}
 use Rattle.sections.specs.Order.{risesBy}

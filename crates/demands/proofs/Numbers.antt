@@ -19,7 +19,7 @@ use Rattle.statement.specs.Lent.{Outcome, refuses, gives}
 use Rattle.lines.specs.Limit.{anyOver}
 use Rattle.reading.specs.Reading.{isStatement}
 use Rattle.rewriting.specs.Rewriting.{rewritten}
-use Rattle.settlement.specs.Settle.{linesOf, statementOf, settled, ifAccepted, outcome}
+use Rattle.settlement.specs.Settle.{linesOf, settled, ifAccepted, outcome}
 use Rattle.demands.specs.Demand1.{onABook, onAStatement, onRewriting, OneOf}
 
 -- a verdict, and an outcome, that refuses only by one of the numbers

@@ -1,26 +1,21 @@
 -- What the demands come to, said once more and without their definitions, so that a demand that says less is refused here. Assumes nothing.
-use Prim.Native.Nat.{ℕ, _+_, _*_, _≤_, _<_, _^_}
-use mathlib.Core.Path.{_≡_, refl, ap, sym, _∙_}
+use Prim.Native.Nat.{ℕ, _+_, _*_, _≤_}
+use mathlib.Core.Path.{_≡_, refl, ap}
 use mathlib.Core.Bool.{Bool, true, false, _||_}
 use mathlib.Core.List.{List, [], _∷_}
-use mathlib.Core.Logic.{_⊎_, inl, inr, ⊎-elim}
 use native.Mathlib.Omega.{arith}
 use borrow.Author.Tests.{eqb-true}
 use lib.Dec.{eqb}
 use lib.IntN.{ℤ, natAbs, _+ℤ_}
-use Rattle.ground.specs.Bytes.{AreBytes}
 use Rattle.ground.specs.Each.{Each}
 use Rattle.parties.specs.Once.{has}
 use Rattle.statement.specs.Lent.{Outcome}
 use Rattle.settlement.specs.Settle.{outcome}
-use Rattle.balance.specs.Balance.{balanceOf}
-use Rattle.fervolatro.specs.Answers.{verdictAnswer, poolAnswer, Called}
+use Rattle.fervolatro.specs.Answers.{Called}
 use Rattle.fervolatro.specs.declared.WrittenAnswer.{WrittenAnswer}
 use Rattle.fervolatro.specs.declared.PoolAnswer.{PoolAnswer}
-use Rattle.demands.specs.Demand1.{onABook, onAStatement, onABalance, onRewriting, onALine, onAHeader, OneOf, Answered, written, short, refused}
+use Rattle.demands.specs.Demand1.{onABook, OneOf, Answered, written, short, refused}
 use Rattle.demands.specs.Demand2.{PoolCloses}
-use Rattle.demands.proofs.Demand1.{every-input-is-answered}
-use Rattle.demands.proofs.Demand2.{every-line-and-pool-is-the-guides}
 use Rattle.demands.proofs.Demand3.{no-neighbours-figure}
 use Rattle.demands.proofs.Example.{bookA, bookB, two-books-agree}
 
@@ -42,18 +37,37 @@ From1To last n = (1 ≤ n) × (n ≤ last)
 
 pub book-numbers : (n : ℕ) → OneOf onABook n → From1To 10 n
 book-numbers =
-    one-of (From1To 10) onABook
-    ((omega arith, omega arith),
-    ((omega arith, omega arith),
-    ((omega arith, omega arith),
-    ((omega arith, omega arith),
-    ((omega arith, omega arith),
-    ((omega arith, omega arith),
-    ((omega arith, omega arith),
-    ((omega arith, omega arith),
-    ((omega arith, omega arith),
-    ((omega arith, omega arith),
-    tt))))))))))
+    one-of (From1To 10) onABook (
+      (omega arith, omega arith),
+      (
+        (omega arith, omega arith),
+        (
+          (omega arith, omega arith),
+          (
+            (omega arith, omega arith),
+            (
+              (omega arith, omega arith),
+              (
+                (omega arith, omega arith),
+                (
+                  (omega arith, omega arith),
+                  (
+                    (omega arith, omega arith),
+                    (
+                      (omega arith, omega arith),
+                      (
+                        (omega arith, omega arith),
+                        tt,
+                      ),
+                    ),
+                  ),
+                ),
+              ),
+            ),
+          ),
+        ),
+      ),
+    )
 
 -- a refused call leaves every byte
 pub refused-and-left : (numbers : List ℕ) (o : Outcome) (l : List ℕ) (r : WrittenAnswer) (x : List ℕ) → Answered numbers o l r x → (r .refusal ≡ 0 → ⊥) → x ≡ l

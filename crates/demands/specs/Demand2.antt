@@ -6,7 +6,9 @@ use mathlib.Core.List.{List, [], _∷_}
 use lib.IntN.{ℤ, pos, natAbs, _+ℤ_}
 use lib.ListN.{length}
 use Rattle.ground.specs.Bytes.{AreBytes, part}
+use Rattle.book.specs.Header.{headerOf}
 use Rattle.book.specs.Book.{bookOf}
+use Rattle.book.specs.Table.{verdict}
 use Rattle.accounts.specs.Rows.{keep, sumOf}
 use Rattle.accounts.specs.Account.{publicOf}
 use Rattle.statement.specs.Statement.{statementBytes}
@@ -19,8 +21,11 @@ use Rattle.rewriting.specs.Rewriting.{rewritten}
 use Rattle.settlement.specs.Settle.{headingOf, outcome}
 use Rattle.balance.specs.Pools.{Pool, found, poolsIn, poolAt, inPool}
 use Rattle.balance.specs.Balance.{sumZ, accountsOf, balanceOf}
+use Rattle.guide.specs.Signed.{signedBook}
 use Rattle.guide.specs.Guide.{guideLines}
-use Rattle.fervolatro.specs.Answers.{headingAnswer, entryAnswer, poolAnswer, Called}
+use Rattle.guide.specs.Checks.{FactorSums, EntrySums}
+use Rattle.fervolatro.specs.Answers.{verdictAnswer, headingAnswer, entryAnswer, poolAnswer, Called}
+use Rattle.fervolatro.specs.declared.VerdictAnswer.{VerdictAnswer}
 use Rattle.fervolatro.specs.declared.WrittenAnswer.{WrittenAnswer}
 use Rattle.fervolatro.specs.declared.PoolAnswer.{PoolAnswer}
 use Rattle.demands.specs.Demand1.{Gives}
@@ -68,9 +73,17 @@ pub record PoolCloses (b : List ℕ) (number : ℕ) (r : PoolAnswer) : Type 0 wh
   pub sum : r .sum ≡ sumZ (λ a. sumZ (λ (l : Line). l .amount) (linesIn b pool a)) (accountsOf (bookOf b))
   pub closes : 2 * natAbs (r .amount +ℤ r .sum) ≤ halfUnits pool (r .lines)
 
+-- ---- the book
+
+-- the sums of checks 8 and 9, as the papers print them: factors of each constraint with its units', energies of each region with its rows'
+pub record SumsAreTheGuides (b : List ℕ) : Type 0 where
+  pub factors : (j : ℕ) → j < headerOf b .constraints → FactorSums (signedBook b) (signedBook b .constraint j)
+  pub energies : (g : ℕ) → g < 5 → EntrySums (signedBook b) g
+
 -- ---- the demand, of what the calls promise where they do not refuse
 
 pub record EveryLineIsTheGuides : Type 0 where
+  pub check : (b : List ℕ) → AreBytes b → (r : VerdictAnswer) → r ≡ verdictAnswer (verdict b) → r .refusal ≡ 0 → SumsAreTheGuides b
   pub statement : (b : List ℕ) → AreBytes b → (account : ℕ) → account < 2 ^ 32 → (l : List ℕ) (r : WrittenAnswer) (x : List ℕ) → Called (outcome b account) l r x → r .refusal ≡ 0 → StatementIsTheGuides b account l r x
   pub balance : (b : List ℕ) → AreBytes b → (number : ℕ) (r : PoolAnswer) → r ≡ poolAnswer (balanceOf b number) → r .refusal ≡ 0 → PoolCloses b number r
   -- "read and written, the same bytes"

@@ -14,6 +14,7 @@ ghost use Rattle.quick.specs.Holds.{unitsHold};
 ghost use Rattle.quick.specs.Units.{follows, smallSums, settled, Taken};
 use factors::sums;
 use factors::sums::Sums;
+use records::kinds::Mode;
 use records::rows;
 use records::rows::Constraint;
 use records::rows::UnitRow;
@@ -64,7 +65,7 @@ fn settles(r: Constraint, t: Sums, from: usize) -> bool
     if !small(t) {
         return false;
     }
-    ((r.mode != 0) | (t.next == from)) & sums::sums_ok(r, t)
+    ((r.mode != Mode::CONTINGENCY) | (t.next == from)) & sums::sums_ok(r, t)
 }
 
 // Whether unit rows and constraints keep these checks; that the constraints keep their own rules has been seen before.
