@@ -65,9 +65,6 @@ module _ (B : Book) {account : ℕ} {h : Held} (f : HeldIs (B .energy) (B .heade
   unfolding rowsOfAccount
   held-own g l = f .own g l
 
-  pub held-rule : Promise B → (g : ℕ) → g < 5 → EntryRule (entryOf (h .own) g)
-  held-rule p g l = rw (held-own g l) (own-rule p account g l)
-
   -- 11: neither a unit row nor an energy row was found
   pub held-unknown : {u : Bool} → u ≡ not (none (keep (λ r. eqb (r .account) account) (rowsOf (B .unit) (B .header .units)))) → not u && not (h .any) ≡ unknown (rowsOfAccount B account)
   unfolding rowsOfAccount

@@ -6,11 +6,11 @@ use lib.Dec.{eqb}
 use native.Mathlib.Omega.{arith}
 use Rattle.ground.specs.Round.{roundN}
 use Rattle.ground.proofs.Rounding.{round-share, half-below}
-use Rattle.records.specs.Kinds.{modeWith}
+use Rattle.market.specs.Kinds.{modeWith}
 use Rattle.records.specs.Rules.{modeOf}
 use Rattle.records.specs.Facts.{ConstraintRule}
-use Rattle.records.specs.declared.kinds.Mode.{Mode}
-use Rattle.records.specs.declared.kinds.Mode.the-variants.{Contingency, Factored, Default, Unknown}
+use Rattle.market.specs.declared.Mode.{Mode}
+use Rattle.market.specs.declared.Mode.the-variants.{Contingency, Factored, Default, Unknown}
 use Rattle.records.specs.declared.rows.Constraint.{Constraint}
 use Rattle.amounts.specs.Pools.{poolsIn, poolsOf, residualOf, halvesOf}
 use Rattle.amounts.specs.Bounds.{SmallPools, SmallResidual, SmallHalves}

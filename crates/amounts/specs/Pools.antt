@@ -2,8 +2,8 @@
 use Prim.Native.Nat.{ℕ, _+_, _-_, _*_, _/_}
 use Rattle.ground.specs.Round.{roundN}
 use Rattle.records.specs.Rules.{modeOf}
-use Rattle.records.specs.declared.kinds.Mode.{Mode}
-use Rattle.records.specs.declared.kinds.Mode.the-variants.{Contingency, Factored, Default, Unknown}
+use Rattle.market.specs.declared.Mode.{Mode}
+use Rattle.market.specs.declared.Mode.the-variants.{Contingency, Factored, Default, Unknown}
 use Rattle.records.specs.declared.rows.Constraint.{Constraint}
 use Rattle.amounts.specs.declared.pools.Pools.{Pools}
 use Rattle.amounts.specs.declared.pools.Residual.{Residual}

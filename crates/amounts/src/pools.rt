@@ -7,7 +7,7 @@ ghost use Rattle.amounts.specs.Pools.{poolsOf, residualOf, halvesOf};
 ghost use Rattle.amounts.specs.Bounds.{SmallPools};
 use crate::shares;
 use ground::round;
-use records::kinds::Mode;
+use market::Mode;
 use records::rows::Constraint;
 
 // The three pools of a regulation constraint.

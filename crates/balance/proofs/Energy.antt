@@ -10,7 +10,7 @@ use Rattle.sections.specs.Total.{total, keyed, totalOf}
 use Rattle.sections.specs.Search.{all}
 use Rattle.sections.proofs.Total.{total-zero, total-same, total-swap, keyed-hit, keyed-miss, total-only}
 use Rattle.sections.proofs.Search.{all-each}
-use Rattle.records.specs.Kinds.{raises, regulates, bitSet}
+use Rattle.market.specs.Kinds.{raises, regulates, bitSet}
 use Rattle.records.specs.declared.rows.Entry.{Entry}
 use Rattle.records.specs.declared.rows.Constraint.{Constraint}
 use Rattle.records.specs.declared.rows.EnergyRow.{EnergyRow}

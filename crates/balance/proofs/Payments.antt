@@ -16,7 +16,7 @@ use Rattle.ground.proofs.Rounding.{round-share}
 use Rattle.sections.specs.Total.{total, keyed, totalOf}
 use Rattle.sections.proofs.Total.{total-more, total-bound, total-zero, total-same, total-swap, keyed-hit, keyed-miss, keyed-plus, total-five, total-has, total-only}
 use Rattle.records.specs.Rows.{energyRow}
-use Rattle.records.specs.Kinds.{bitSet}
+use Rattle.market.specs.Kinds.{bitSet}
 use Rattle.records.specs.Rules.{factorOf}
 use Rattle.records.specs.declared.rows.Entry.{Entry}
 use Rattle.records.specs.declared.rows.Contract.{Contract}

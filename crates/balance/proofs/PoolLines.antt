@@ -12,7 +12,7 @@ use Rattle.ground.specs.Round.{roundN}
 use Rattle.ground.specs.Sign.{less}
 use Rattle.ground.proofs.Rounding.{round-zero}
 use Rattle.sections.specs.Total.{total, keyed}
-use Rattle.records.specs.Kinds.{raises}
+use Rattle.market.specs.Kinds.{raises}
 use Rattle.records.specs.Rules.{factorOf}
 use Rattle.records.specs.declared.rows.Entry.{Entry}
 use Rattle.records.specs.declared.rows.Constraint.{Constraint}

@@ -6,9 +6,9 @@ use mathlib.Core.Bool.{Bool, true, false, cond}
 use native.Mathlib.Omega.{arith}
 use lib.Dec.{eqb}
 use Rattle.ground.proofs.Rounding.{round-share}
-use Rattle.records.specs.Kinds.{modeWith}
+use Rattle.market.specs.Kinds.{modeWith}
 use Rattle.records.specs.Facts.{ConstraintRule}
-use Rattle.records.specs.declared.kinds.Mode.the-variants as mode
+use Rattle.market.specs.declared.Mode.the-variants as mode
 use Rattle.records.specs.declared.rows.Constraint.{Constraint}
 use Rattle.amounts.specs.Pools.{poolsIn}
 use Rattle.balance.specs.Pools.{recovers}

@@ -10,7 +10,7 @@ use Rattle.ground.specs.Bytes.{partFrom}
 use Rattle.ground.specs.Sign.{less}
 use Rattle.records.specs.Rows.{unitRow, energyRow}
 use Rattle.records.specs.Facts.{ConstraintRule}
-use Rattle.records.specs.Kinds.{raises, regulates}
+use Rattle.market.specs.Kinds.{raises, regulates}
 use Rattle.records.specs.declared.rows.Constraint.{Constraint}
 use Rattle.records.specs.declared.rows.Contract.{Contract}
 use Rattle.totals.specs.Divisors.{divisorOf}

@@ -8,7 +8,7 @@ use lib.ListN.{length}
 use Rattle.ground.specs.Round.{roundN}
 use Rattle.ground.specs.Sign.{less}
 use Rattle.sections.specs.Total.{total}
-use Rattle.records.specs.Kinds.{raises, regulates}
+use Rattle.market.specs.Kinds.{raises, regulates}
 use Rattle.records.specs.Rules.{factorOf}
 use Rattle.records.specs.declared.rows.Entry.{Entry}
 use Rattle.records.specs.declared.rows.Constraint.{Constraint}

@@ -17,7 +17,7 @@ use crate::kinds::Kind;
 use crate::places::Place;
 use book::header;
 use book::header::Header;
-use records::kinds::Mode;
+use market::Mode;
 use records::rows;
 use sections::Verdict;
 

@@ -6,7 +6,7 @@ ghost use Rattle.records.specs.Rows.{constraintRow};
 ghost use Rattle.balance.specs.Pools.{constraintPools};
 ghost use Rattle.balance.specs.Places.{KindIs, PlaceIs};
 use crate::kinds::Kind;
-use records::kinds::Mode;
+use market::Mode;
 use records::rows;
 use records::rows::Constraint;
 

@@ -4,7 +4,7 @@ use Rattle.ground.specs.Le.{le16, le32, le64, int32, int64}
 use Rattle.ground.specs.Sizes.{plusOf, minusOf}
 use Rattle.sections.specs.Total.{total}
 use Rattle.records.specs.Rows.{entryRow, constraintRow, unitRow, energyRow}
-use Rattle.records.specs.Kinds.{modeWith}
+use Rattle.market.specs.Kinds.{modeWith}
 use Rattle.totals.specs.Divisors.{basisOf, shareOf}
 use Rattle.book.specs.Header.{headerOf}
 use Rattle.amounts.specs.Pools.{poolsIn, residualOf}

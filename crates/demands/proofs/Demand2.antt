@@ -28,6 +28,7 @@ use Rattle.rewriting.specs.Rewriting.{rewritten}
 use Rattle.settlement.specs.Settle.{headingOf, statementOf, outcome}
 use Rattle.balance.specs.Pools.{Pool, Found, past, found, poolsIn, poolAt, inPool}
 use Rattle.balance.specs.Balance.{sumZ, accountsOf, poolLines, lineCount, lineSum, balanceIn, answerTo, balancesIn, ifAccepted, balanceOf}
+use Rattle.balance.proofs.Accounts.{each-account-stands-once}
 use Rattle.balance.proofs.Closes.{every-pool-closes}
 use Rattle.trips.specs.ReadBack.{ReadBack}
 use Rattle.trips.proofs.Call.{passed}
@@ -142,6 +143,7 @@ module _ (b : List ℕ) (bytes : AreBytes b) (number : ℕ) where
         pool = p;
         there = e;
         amount = rw a refl;
+        everyone = each-account-stands-once (bookOf b);
         lines = rw a (ap (λ (f : ℕ → List Line). sumOf (λ i. length (keep (inPool p) (f i))) (accountsOf (bookOf b))) guides);
         sum = rw a (ap (λ (f : ℕ → List Line). sumZ (λ i. sumZ (λ (l : Line). l .amount) (keep (inPool p) (f i))) (accountsOf (bookOf b))) guides);
         closes = rw a (every-pool-closes b v number p e);

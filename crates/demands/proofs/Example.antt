@@ -17,7 +17,7 @@ use Rattle.sections.specs.Search.{all, some}
 use Rattle.sections.specs.Total.{total, keyed}
 use Rattle.calendar.specs.Calendar.{daysIn, isDate, isPeriod}
 use Rattle.records.specs.Rows.{entryRow, constraintRow, unitRow, energyRow, contractRow}
-use Rattle.records.specs.Kinds.{modeWith}
+use Rattle.market.specs.Kinds.{modeWith}
 use Rattle.records.specs.Rules.{termsOk, modeFits, sharesOk}
 use Rattle.factors.specs.Naming.{namedAt}
 use Rattle.factors.specs.Factors.{factorsAt}

@@ -2,6 +2,7 @@
 -- stated half units. A statement written and read gives the same lines; read and written, the same bytes."
 use Prim.Native.Nat.{ℕ, zero, suc, _+_, _*_, _≤_, _<_, _^_}
 use mathlib.Core.Path.{_≡_}
+use mathlib.Core.Bool.{cond, not}
 use mathlib.Core.List.{List, [], _∷_}
 use lib.IntN.{ℤ, pos, natAbs, _+ℤ_}
 use lib.ListN.{length}
@@ -10,7 +11,8 @@ use Rattle.book.specs.Header.{headerOf}
 use Rattle.book.specs.Book.{bookOf}
 use Rattle.book.specs.Table.{verdict}
 use Rattle.accounts.specs.Rows.{keep, sumOf}
-use Rattle.accounts.specs.Account.{publicOf}
+use Rattle.accounts.specs.Account.{publicOf, rowsOfAccount, unknown}
+use Rattle.parties.specs.Once.{times}
 use Rattle.statement.specs.Statement.{statementBytes}
 use Rattle.statement.specs.declared.Line.{Line}
 use Rattle.reading.specs.Calls.{headingRead, lineRead}
@@ -68,6 +70,8 @@ pub record PoolCloses (b : List ℕ) (number : ℕ) (r : PoolAnswer) : Type 0 wh
   pub pool : Pool
   pub there : poolAt (poolsIn (publicOf (bookOf b))) number ≡ found pool
   pub amount : r .amount ≡ pos (pool .amount)
+  -- "all accounts (each that 11 lets pass)": each stands there once
+  pub everyone : (account : ℕ) → times account (accountsOf (bookOf b)) ≡ cond (not (unknown (rowsOfAccount (bookOf b) account))) 1 0
   -- "how many lines all accounts have in that pool, and their sum"
   pub lines : r .lines ≡ sumOf (λ a. length (linesIn b pool a)) (accountsOf (bookOf b))
   pub sum : r .sum ≡ sumZ (λ a. sumZ (λ (l : Line). l .amount) (linesIn b pool a)) (accountsOf (bookOf b))

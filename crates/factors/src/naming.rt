@@ -7,7 +7,7 @@ ghost use Rattle.sections.specs.Order.{Rises, Keeps};
 ghost use Rattle.sections.specs.Walk.{Under, Sought};
 ghost use Rattle.records.specs.Rows.{constraintRow, unitRow};
 ghost use Rattle.factors.specs.Naming.{idOf, keyOf, namedAt};
-use records::kinds::Mode;
+use market::Mode;
 use records::rows;
 use sections::Checked;
 

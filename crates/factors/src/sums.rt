@@ -10,7 +10,7 @@ ghost use Rattle.records.specs.Rows.{constraintRow, unitRow};
 ghost use Rattle.factors.specs.Naming.{idOf, keyOf};
 ghost use Rattle.factors.specs.Factors.{sumsOk, factorsAt};
 ghost use Rattle.factors.specs.Runs.{Added, RunOf, Walked};
-use records::kinds::Mode;
+use market::Mode;
 use records::rows;
 use records::rows::Constraint;
 use records::rows::UnitRow;

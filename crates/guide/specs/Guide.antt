@@ -7,7 +7,7 @@ use mathlib.Core.Bool.{_&&_, cond}
 use mathlib.Core.List.{List, [], _∷_, _++_}
 use lib.Dec.{eqb}
 use lib.IntN.{ℤ, pos, negℤ, _-ℤ_, _*ℤ_}
-use Rattle.records.specs.Kinds.{raises, bitSet}
+use Rattle.market.specs.Kinds.{raises, bitSet}
 use Rattle.accounts.specs.Rows.{joined}
 use Rattle.statement.specs.declared.Line.{Line}
 use Rattle.guide.specs.Numbers.{sum, round, min0, million}

@@ -9,7 +9,7 @@ ghost use Rattle.lines.specs.Emitted.{Emitted, Room};
 use crate::make;
 use amounts::pools::Pools;
 use amounts::pools::Residual;
-use records::kinds::Mode;
+use market::Mode;
 use records::rows::Constraint;
 use records::rows::UnitRow;
 use statement::Line;

@@ -43,7 +43,7 @@ module _ {A : Type 0} (g : A → ℕ) (p t : ℕ) (h : 0 < t) where
       record { up = omega arith; down = omega arith }
 
   -- where the parts make the whole, the shares make the pool, at most half a unit away for each
-  pub closing : (l : List A) → sumOf g l ≡ t → Within (length l) p (sumOf (λ a. roundN (p * g a) t) l)
+  closing : (l : List A) → sumOf g l ≡ t → Within (length l) p (sumOf (λ a. roundN (p * g a) t) l)
   unfolding shares
   closing l e =
       let k = close l in

@@ -15,7 +15,7 @@ use Rattle.sections.specs.Walk.{Stands, Past}
 use Rattle.sections.proofs.Total.{total-bound, total-under, keyed-le}
 use Rattle.sections.proofs.Search.{lt-or-ge}
 use Rattle.sections.proofs.Walk.{Run, run-start, run-next, run-stop, run-done, sum-start, sum-more, sum-past}
-use Rattle.records.specs.Kinds.{bitSet}
+use Rattle.market.specs.Kinds.{bitSet}
 use Rattle.records.specs.Facts.{EnergyRule}
 use Rattle.records.specs.declared.rows.EnergyRow.{EnergyRow}
 use Rattle.accounts.specs.Rows.{sumOf}

@@ -11,7 +11,7 @@ use lib.Dec.{eqb}
 use Rattle.ground.specs.Round.{roundN}
 use Rattle.sections.specs.Total.{total, keyed, totalOf}
 use Rattle.sections.proofs.Total.{total-zero, total-same}
-use Rattle.records.specs.Kinds.{bitSet}
+use Rattle.market.specs.Kinds.{bitSet}
 use Rattle.records.specs.declared.rows.EnergyRow.{EnergyRow}
 use Rattle.parties.specs.Once.{has, named}
 use Rattle.parties.specs.Parties.{energyAccount, byBasis, energyIn, ownIn, shareIn, partSum, Sorted}

@@ -7,7 +7,7 @@ use lib.Dec.{eqb}
 use Rattle.ground.specs.Round.{roundN}
 use Rattle.sections.specs.Total.{total}
 use Rattle.sections.specs.Order.{PairsRise}
-use Rattle.records.specs.Kinds.{bitSet}
+use Rattle.market.specs.Kinds.{bitSet}
 use Rattle.records.specs.Facts.{EnergyRule}
 use Rattle.records.specs.declared.rows.UnitRow.{UnitRow}
 use Rattle.records.specs.declared.rows.EnergyRow.{EnergyRow}

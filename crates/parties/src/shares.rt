@@ -8,7 +8,7 @@ ghost use Rattle.records.specs.Facts.{EnergyRule};
 ghost use Rattle.records.specs.Rows.{energyRow};
 ghost use Rattle.parties.specs.Groups.{GroupIs};
 ghost use Rattle.parties.specs.Parties.{energyAccount, byBasis, energyIn, partSum, Sorted, Shareable};
-use records::kinds::Region;
+use market::Region;
 use records::rows;
 use records::rows::EnergyRow;
 

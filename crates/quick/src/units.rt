@@ -14,7 +14,7 @@ ghost use Rattle.quick.specs.Holds.{unitsHold};
 ghost use Rattle.quick.specs.Units.{follows, smallSums, settled, Taken};
 use factors::sums;
 use factors::sums::Sums;
-use records::kinds::Mode;
+use market::Mode;
 use records::rows;
 use records::rows::Constraint;
 use records::rows::UnitRow;

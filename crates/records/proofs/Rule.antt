@@ -16,7 +16,7 @@ use Rattle.sections.specs.declared.Checked.the-variants.{Good}
 use Rattle.sections.proofs.First.{first-each}
 use Rattle.sections.proofs.Search.{all-each}
 use Rattle.sections.proofs.Order.{rises, rises-step, pairs-rise}
-use Rattle.records.specs.Kinds.{isService, regulates, modeWith}
+use Rattle.market.specs.Kinds.{isService, regulates, modeWith}
 use Rattle.records.specs.Rules.{entryTests, entryOk, modeOf, termsOk, noTerms, modeFits, constraintTests, constraintOk, unitTests, unitOk, energyTests, energyOk, factorOf, sharesOk, contractTests, contractOk, constraintBelow, unitBelow, energyBelow, contractBelow}
 use Rattle.records.specs.Facts.{EntryRule, Bare, Terms, ConstraintRule, UnitRule, EnergyRule, ContractRule}
 use Rattle.records.specs.declared.rows.Entry.{Entry}

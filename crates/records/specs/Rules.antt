@@ -8,9 +8,9 @@ use Rattle.ground.specs.Every.{allOf}
 use Rattle.sections.specs.Order.{pairBelow}
 use Rattle.sections.specs.Search.{all}
 use Rattle.sections.specs.Total.{total}
-use Rattle.records.specs.Kinds.{isService, regulates, modeWith}
-use Rattle.records.specs.declared.kinds.Mode.{Mode}
-use Rattle.records.specs.declared.kinds.Mode.the-variants.{Contingency, Factored, Default, Unknown}
+use Rattle.market.specs.Kinds.{isService, regulates, modeWith}
+use Rattle.market.specs.declared.Mode.{Mode}
+use Rattle.market.specs.declared.Mode.the-variants.{Contingency, Factored, Default, Unknown}
 use Rattle.records.specs.declared.rows.Entry.{Entry}
 use Rattle.records.specs.declared.rows.Constraint.{Constraint}
 use Rattle.records.specs.declared.rows.UnitRow.{UnitRow}

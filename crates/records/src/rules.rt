@@ -6,15 +6,15 @@ ghost use lib.ListN.{length};
 ghost use Rattle.sections.specs.Order.{risesBy};
 ghost use Rattle.records.specs.Rows.{constraintRow, unitRow, energyRow, contractRow};
 ghost use Rattle.records.specs.Rules.{entryOk, termsOk, noTerms, modeFits, constraintOk, unitOk, energyOk, sharesOk, contractOk, constraintBelow, unitBelow, energyBelow, contractBelow};
-use crate::kinds::Mode;
-use crate::kinds::Region;
-use crate::kinds::Service;
 use crate::rows;
 use crate::rows::Constraint;
 use crate::rows::Contract;
 use crate::rows::EnergyRow;
 use crate::rows::Entry;
 use crate::rows::UnitRow;
+use market::Mode;
+use market::Region;
+use market::Service;
 
 // ---- check 5: fields
 

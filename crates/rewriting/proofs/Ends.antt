@@ -1,25 +1,22 @@
--- Each way in which a statement's writing again ends, and demand 2's second round trip: read and written, the same bytes. Assumes nothing.
+-- Each way in which a statement's writing again ends. Assumes nothing.
 use Prim.Native.Nat.{ℕ, zero, suc, _+_, _*_, _≤_, _<_}
 use mathlib.Core.Path.{_≡_, refl, sym, _∙_}
 use mathlib.Core.List.{List, [], _∷_}
 use mathlib.Core.Bool.{Bool, true, false, not}
 use native.Mathlib.Omega.{arith}
-use borrow.Author.Tests.{le-leb, not-true, not-false}
+use borrow.Author.Tests.{not-true, not-false}
 use lib.ListN.{length, length-append}
-use Rattle.ground.specs.Bytes.{AreBytes}
 use Rattle.ground.specs.Put.{put, Wrote}
 use Rattle.ground.proofs.Put.{wrote-length}
 use Rattle.statement.specs.Statement.{headingBytes, linesBytes, statementBytes}
-use Rattle.statement.specs.Lent.{refuses, gives, answerFor, leftIn, Lent}
+use Rattle.statement.specs.Lent.{refuses, gives, Lent}
 use Rattle.statement.specs.declared.Heading.{Heading}
-use Rattle.statement.specs.declared.Written.{Written}
 use Rattle.statement.specs.declared.Written.the-variants.{Length, Refused}
 use Rattle.statement.proofs.Lent.{lent-refused, lent-short, lent-written}
 use Rattle.statement.proofs.Lines.{statement-length, heading-end, wrote-statement}
 use Rattle.reading.specs.Reading.{headingAt, lineAt, linesIn, isStatement}
 use Rattle.reading.proofs.Whole.{headed-length}
 use Rattle.reading.proofs.Ends.{statement-long, statement-headed}
-use Rattle.reading.proofs.Trip.{read-and-written}
 use Rattle.rewriting.specs.Rewriting.{rewritten}
 
 lines-in-length : (s : List ℕ) (n : ℕ) → length (linesIn s n) ≡ n
@@ -72,10 +69,3 @@ module _ (s : List ℕ) {b : Bool} (e : b ≡ isStatement s) where
           let rest : Wrote a m (linesBytes (linesIn s (h .lines))) x (m + length (linesBytes (linesIn s (h .lines)))) = record { bytes = rw at24 p; next = refl } in
           let whole = wrote-statement h (linesIn s (h .lines)) w rest in
           lent-written (rewritten s) (again s) given l (length s) (sym same-length) (omega (arith, same-length)) (rw g at (whole .bytes))
-
--- demand 2: "read and written, the same bytes", into any buffer that is long enough, later bytes kept
-pub rewritten-is-the-same : (s : List ℕ) → AreBytes s → isStatement s ≡ true → (l : List ℕ) → length s ≤ length l → (r : Written) (x : List ℕ) → Lent (rewritten s) l r x → (r ≡ Length (length s)) × (x ≡ put l 0 s)
-unfolding rewritten answerFor leftIn
-rewritten-is-the-same s b q l h r x t =
-    let f = le-leb (length s) (length l) h in
-    (rw (q, read-and-written s b q, f) at (t .answer), rw (q, read-and-written s b q, f) at (t .left))

@@ -8,7 +8,7 @@ use native.Mathlib.Nat.{le-trans, eq-or-lt-of-le}
 use Rattle.sections.specs.Order.{Rises}
 use Rattle.sections.proofs.Total.{total-bound, total-under}
 use Rattle.sections.proofs.Search.{lt-or-ge}
-use Rattle.records.specs.Kinds.{raises, regulates, bitSet}
+use Rattle.market.specs.Kinds.{raises, regulates, bitSet}
 use Rattle.records.specs.Facts.{EntryRule}
 use Rattle.records.specs.declared.rows.Entry.{Entry}
 use Rattle.records.specs.declared.rows.Constraint.{Constraint}

@@ -11,7 +11,7 @@ ghost use Rattle.book.specs.Facts.{Laid};
 ghost use Rattle.settlement.specs.Counts.{eachOf, UnitsCounted, Countable, MetAt, ConstraintsCounted, ContractCounted, ContractsCounted, BookCounted};
 use book::header::Header;
 use factors::naming;
-use records::kinds::Mode;
+use market::Mode;
 use records::rows;
 use records::rows::Constraint;
 use records::rows::Contract;

@@ -16,7 +16,7 @@ use amounts::pools;
 use amounts::pools::Pools;
 use lines::groups;
 use lines::make;
-use records::kinds::Mode;
+use market::Mode;
 use records::rows;
 use records::rows::Constraint;
 use records::rows::UnitRow;

@@ -81,9 +81,6 @@ module _ {l : List ℕ} {k : ℕ} {b : List ℕ} {e : ℕ} where
   pub line-end : (y : Line) → Wrote l k (lineBytes y) b e → e ≡ k + 24
   line-end y w = omega (arith, line-length y)
 
-  pub lines-end : (ls : List Line) → Wrote l k (linesBytes ls) b e → e ≡ k + 24 * length ls
-  lines-end ls w = omega (arith, lines-length ls)
-
 module _ {l : List ℕ} {k : ℕ} {a : List ℕ} {m : ℕ} {b : List ℕ} {e : ℕ} where
   -- lines, then more lines
   pub wrote-lines : (xs ys : List Line) → Wrote l k (linesBytes xs) a m → Wrote a m (linesBytes ys) b e → Wrote l k (linesBytes (xs ++ ys)) b e

@@ -9,7 +9,7 @@ use lib.ListN.{length, getD, set, replicate}
 use lib.Seq.{ext-getD}
 use Rattle.sections.proofs.Total.{total-same}
 use Rattle.sections.proofs.Groups.{split-none, split-more, split-bound}
-use Rattle.records.specs.Kinds.{raises, regulates, bitSet}
+use Rattle.market.specs.Kinds.{raises, regulates, bitSet}
 use Rattle.records.specs.Facts.{EntryRule, EnergyRule}
 use Rattle.records.specs.declared.rows.Entry.{Entry}
 use Rattle.records.specs.declared.rows.Constraint.{Constraint}

@@ -7,7 +7,7 @@ ghost use Rattle.records.specs.Rows.{entryRow, energyRow};
 ghost use Rattle.records.specs.Facts.{EnergyRule};
 ghost use Rattle.totals.specs.Sums.{entryIs, entryAt};
 ghost use Rattle.totals.specs.Turns.{TotalsOf};
-use records::kinds::Region;
+use market::Region;
 use records::rows;
 use records::rows::Entry;
 use sections::Checked;

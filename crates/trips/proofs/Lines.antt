@@ -10,7 +10,7 @@ use lib.IntN.{ℤ, natAbs}
 use Rattle.ground.specs.Round.{roundN}
 use Rattle.ground.specs.Sign.{signed, negative}
 use Rattle.ground.proofs.Every.{all}
-use Rattle.records.specs.Kinds.{raises}
+use Rattle.market.specs.Kinds.{raises}
 use Rattle.records.specs.Facts.{ConstraintRule}
 use Rattle.records.specs.declared.rows.Constraint.{Constraint}
 use Rattle.records.specs.declared.rows.UnitRow.{UnitRow}

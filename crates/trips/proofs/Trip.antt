@@ -6,7 +6,7 @@ use mathlib.Core.List.{List, [], _∷_}
 use borrow.Author.Tests.{le-leb}
 use lib.Dec.{leb}
 use lib.ListN.{length}
-use Rattle.ground.specs.Bytes.{part, AreBytes}
+use Rattle.ground.specs.Bytes.{AreBytes}
 use Rattle.ground.specs.Each.{Each}
 use Rattle.ground.proofs.Every.{all}
 use Rattle.calendar.specs.Calendar.{isPeriod}
@@ -15,10 +15,8 @@ use Rattle.book.specs.Accepted.{Promise}
 use Rattle.book.proofs.Promise.{accepted}
 use Rattle.accounts.specs.Account.{Public, Rows, publicOf, rowsOfAccount}
 use Rattle.statement.specs.Statement.{statementBytes}
-use Rattle.statement.specs.Lent.{gives, Lent}
+use Rattle.statement.specs.Lent.{gives}
 use Rattle.statement.specs.declared.Heading.{Heading}
-use Rattle.statement.specs.declared.Written.the-variants.{Length}
-use Rattle.statement.proofs.Lent.{lent-front}
 use Rattle.reading.specs.Reading.{headingAt, linesIn}
 use Rattle.reading.specs.Writable.{WritableHeading, WritableLine}
 use Rattle.reading.proofs.Written.{heading-back, lines-back, written-accepted}
@@ -64,9 +62,3 @@ written-and-read b account xs bytes small e =
     (read-back (publicOf B) (rowsOfAccount B account) account
     (heading-written B p account (length ls) (account-low B p account (s .known)) small few)
     (due-written ls (rw (o .lines) (book-due B p (narrow b bytes) _ account)) (s .under)))
-
--- the same of a call's answer and of what it leaves in a lent buffer l: where it answers a length, that many bytes at the front are the
--- statement that is read back
-pub left-and-read : (b : List ℕ) (account : ℕ) (l : List ℕ) (n : ℕ) (x : List ℕ) → AreBytes b → account < 2 ^ 32 → Lent (outcome b account) l (Length n) x → ReadBack (publicOf (bookOf b)) (rowsOfAccount (bookOf b) account) account (part x 0 n)
-left-and-read b account l n x bytes small h =
-    written-and-read b account (part x 0 n) bytes small (lent-front (outcome b account) l n x h)

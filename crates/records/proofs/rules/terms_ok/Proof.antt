@@ -3,7 +3,7 @@ use mathlib.Core.Bool.{true}
 use mathlib.Core.Path.{_≡_, refl}
 use borrow.Author.Needs.{needs}
 use Rattle.records.specs.Rules.{termsOk}
-use Rattle.records.proofs.Modes.{unfactored}
+use Rattle.market.proofs.Modes.{unfactored}
 use Rattle.records.proofs.rules.terms_ok.Statement.{statement}
 use Rattle.records.proofs.rules.terms_ok.Tie as tie
 

@@ -1,8 +1,8 @@
--- `records::kinds::Mode::of` meets its contract. The number decides the case. Assumes nothing.
+-- `market::Mode::of` meets its contract. The number decides the case. Assumes nothing.
 use borrow.Author.Tests.{eq-eqb, ne-eqb}
-use Rattle.records.specs.Kinds.{modeWith}
-use Rattle.records.proofs.kinds.Mode.of.Statement.{statement}
-use Rattle.records.proofs.kinds.Mode.of.Tie as tie
+use Rattle.market.specs.Kinds.{modeWith}
+use Rattle.market.proofs.Mode.of.Statement.{statement}
+use Rattle.market.proofs.Mode.of.Tie as tie
 
 returns : tie.Need-returns
 unfolding modeWith

@@ -1,12 +1,12 @@
--- `records::kinds::Region::bit` meets its contract. One bit shifted by less than the width stays within the byte. Assumes nothing.
+-- `market::Region::bit` meets its contract. One bit shifted by less than the width stays within the byte. Assumes nothing.
 use Prim.Native.Nat.{ℕ, _*_, _%_, _^_, _<_}
 use mathlib.Core.Path.{_≡_}
 use native.Mathlib.Nat.{one-mul, mod-eq-of-lt}
 use native.Mathlib.Omega.{arith}
 use lib.Pow.{pow-lt}
 use borrow.Author.Needs.{needs}
-use Rattle.records.proofs.kinds.Region.bit.Statement.{statement}
-use Rattle.records.proofs.kinds.Region.bit.Tie as tie
+use Rattle.market.proofs.Region.bit.Statement.{statement}
+use Rattle.market.proofs.Region.bit.Tie as tie
 
 one-bit : (r : ℕ) → r < 8 → (1 * 2 ^ r) % 256 ≡ 2 ^ r
 one-bit r h = rw one-mul (mod-eq-of-lt (pow-lt {i = r} {j = 8} h))

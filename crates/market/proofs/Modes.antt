@@ -6,9 +6,9 @@ use mathlib.Core.Logic.{⊎-elim}
 use native.Mathlib.Omega.{arith}
 use types.Run.{OneOf}
 use denote.Enum.Declared.{tagOf}
-use Rattle.records.specs.declared.kinds.Mode.{Mode}
-use Rattle.records.specs.declared.kinds.Mode.the-variants.{Contingency, Factored, Default, Unknown}
-use Rattle.records.proofs.kinds.Mode.{the-type}
+use Rattle.market.specs.declared.Mode.{Mode}
+use Rattle.market.specs.declared.Mode.the-variants.{Contingency, Factored, Default, Unknown}
+use Rattle.market.proofs.Mode.{the-type}
 
 factored-tag : OneOf (0 ∷ 2 ∷ 3 ∷ []) 1 → ⊥
 factored-tag k = ⊎-elim (λ (e : _≡_ {A = ℕ} 1 0). omega arith) (λ h. ⊎-elim (λ (e : _≡_ {A = ℕ} 1 2). omega arith) (λ (e : _≡_ {A = ℕ} 1 3). omega arith) h) k

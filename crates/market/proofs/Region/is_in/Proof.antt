@@ -1,9 +1,9 @@
--- `records::kinds::Region::is_in` meets its contract. Masking with 1 is the remainder by 2. Assumes nothing.
+-- `market::Region::is_in` meets its contract. Masking with 1 is the remainder by 2. Assumes nothing.
 use Prim.Native.Nat.{_/_, _^_}
 use lib.Bits.{and-mask}
 use borrow.Author.Needs.{needs}
-use Rattle.records.proofs.kinds.Region.is_in.Statement.{statement}
-use Rattle.records.proofs.kinds.Region.is_in.Tie as tie
+use Rattle.market.proofs.Region.is_in.Statement.{statement}
+use Rattle.market.proofs.Region.is_in.Tie as tie
 
 shr-result : tie.Need-shr-result
 shr-result c = search needs

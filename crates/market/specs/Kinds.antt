@@ -3,8 +3,8 @@ use Prim.Native.Nat.{ℕ, _/_, _%_, _^_}
 use mathlib.Core.Bool.{Bool, _&&_, cond}
 use mathlib.Core.List.{List, [], _∷_}
 use lib.Dec.{eqb, leb}
-use Rattle.records.specs.declared.kinds.Mode.{Mode}
-use Rattle.records.specs.declared.kinds.Mode.the-variants.{Contingency, Factored, Default, Unknown}
+use Rattle.market.specs.declared.Mode.{Mode}
+use Rattle.market.specs.declared.Mode.the-variants.{Contingency, Factored, Default, Unknown}
 
 -- 01, The book: "Each service and region has one fixed number that belongs to its kind."
 -- "Services 1 to 8 are very fast, fast, slow, delayed, each raise (odd) then lower (even); 9 and 10 are regulation raise and lower."

@@ -2,7 +2,7 @@
 // Raise or lower, the region's bit and the mode's data are asked here and nowhere else.
 ghost use mathlib.Core.Path.{_≡_};
 ghost use Prim.Native.Nat.{_^_, _<_};
-ghost use Rattle.records.specs.Kinds.{serviceNumbers, regionNumbers, isService, raises, regulates, bitSet, modeWith};
+ghost use Rattle.market.specs.Kinds.{serviceNumbers, regionNumbers, isService, raises, regulates, bitSet, modeWith};
 
 // A market frequency service, by its number.
 pub struct Service {
