@@ -75,6 +75,24 @@ fn the_edge_is_the_header_s() {
     assert_none(&edge::unlike_the_header(&Repository::read()));
 }
 
+/// The proved cases are about the bytes of the book that README's first command reads.
+#[test]
+fn the_proved_book_is_the_worked_book() {
+    let cases = Repository::read();
+    let cases = cases.text("crates/cases/specs/Cases.antt");
+    let (_, rest) = cases
+        .split_once("\nworked =\n")
+        .expect("the cases have the worked book's bytes");
+    let (list, _) = rest.split_once("\n\n").expect("a line is left free behind them");
+    let words = list.split(|c: char| !c.is_ascii_digit());
+    let numbers = words.filter(|word| !word.is_empty());
+    let bytes: Vec<u8> = numbers
+        .map(|number| number.parse().expect("each is a byte"))
+        .collect();
+    let book = concat!(env!("CARGO_MANIFEST_DIR"), "/../books/worked.book");
+    assert_eq!(bytes, std::fs::read(book).expect("the worked book is there"));
+}
+
 #[test]
 fn nothing_lies_outside_the_crates() {
     assert_none(&strays(&Repository::read()));
