@@ -20,12 +20,11 @@ use Rattle.ground.proofs.Every.{every, all}
 use Rattle.ground.proofs.Back.{u32-small}
 use Rattle.ground.proofs.Part.{part-bytes}
 use Rattle.ground.proofs.Sizes.{minus-is, minus-to-zero, zero-to, either-way, less-plus, less-zero, zero-less}
-use Rattle.sections.specs.Total.{total, keyed, totalOf}
+use Rattle.sections.specs.Total.{keyed, totalOf}
 use Rattle.sections.specs.declared.Verdict.the-variants.{Accepted}
 use Rattle.sections.proofs.Search.{all-each, all-of}
 use Rattle.records.specs.Rows.{entryRow, constraintRow, unitRow, energyRow, contractRow}
 use Rattle.records.specs.declared.rows.Constraint.{Constraint}
-use Rattle.records.specs.declared.rows.UnitRow.{UnitRow}
 use Rattle.factors.specs.Naming.{keyOf}
 use Rattle.factors.specs.Factors.{factorsOk, sumOver, noFactor, factorsAt}
 use Rattle.totals.specs.Sums.{regionOf, aceOf, asoeOf, residualOf, entryTests, entryAt}

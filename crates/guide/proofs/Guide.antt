@@ -1,22 +1,21 @@
 -- Demand 2: every line of an accepted book's statement is the guide's. The records by their sizes say what the records with their signs say
 -- (Sized), each kind of line is the guide's (Lines), and both go over the same records in the same order. Assumes nothing.
 use Prim.Native.Nat.{ℕ, _+_, _<_}
-use mathlib.Core.Path.{_≡_, refl, sym, ap, ap₂, _∙_}
+use mathlib.Core.Path.{_≡_, sym, ap, ap₂, _∙_}
 use mathlib.Core.Bool.{Bool, _&&_}
 use mathlib.Core.List.{List, [], _∷_, _++_}
 use lib.Dec.{eqb}
-use lib.IntN.{ℤ, pos, negℤ}
+use lib.IntN.{pos, negℤ}
 use Rattle.ground.specs.Bytes.{AreBytes}
 use Rattle.sections.specs.declared.Verdict.the-variants.{Accepted}
 use Rattle.records.specs.Rows.{energyRow}
 use Rattle.records.specs.declared.rows.Entry.{Entry}
-use Rattle.records.specs.declared.rows.EnergyRow.{EnergyRow}
 use Rattle.book.specs.Header.{headerOf}
 use Rattle.book.specs.Book.{bookOf}
 use Rattle.book.specs.Table.{verdict}
 use Rattle.book.specs.Accepted.{ownIn, Promise}
 use Rattle.book.proofs.Promise.{accepted}
-use Rattle.accounts.specs.Rows.{rowsOf, keep, joined, concatMap}
+use Rattle.accounts.specs.Rows.{rowsOf, joined}
 use Rattle.accounts.specs.Account.{publicOf, rowsOfAccount, ownEnergy}
 use Rattle.accounts.proofs.Joined.{joined-same}
 use Rattle.accounts.proofs.Lists.{joined-rows, joined-keep}
@@ -24,7 +23,7 @@ use Rattle.accounts.proofs.Own.{own-in}
 use Rattle.statement.specs.declared.Line.{Line}
 use Rattle.settlement.specs.Settle.{entryIn, ofConstraint, constraintLines, contractLines, linesOf}
 use Rattle.settlement.proofs.Link.{entry-in}
-use Rattle.guide.specs.Signed.{Energies, energyAt, te, signedBook}
+use Rattle.guide.specs.Signed.{energyAt, te, signedBook}
 use Rattle.guide.specs.Guide as guide
 use Rattle.guide.specs.Guide.{guideLines}
 use Rattle.guide.proofs.Numbers.{sum-pos, sum-minus}

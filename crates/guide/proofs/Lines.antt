@@ -1,5 +1,5 @@
 -- Each kind of line, made from a record by its sizes, is the guide's line of the record with its signs. Assumes nothing.
-use Prim.Native.Nat.{ℕ, _+_, _-_, _*_, _/_, _^_, _≤_, _<_}
+use Prim.Native.Nat.{ℕ, _-_, _*_, _<_}
 use mathlib.Core.Path.{_≡_, refl, sym, ap, ap₂, _∙_}
 use mathlib.Core.Bool.{Bool, true, false, cond}
 use mathlib.Core.List.{List, [], _∷_}
@@ -22,7 +22,7 @@ use Rattle.totals.specs.Divisors.{basisOf, shareOf, divisorOf}
 use Rattle.amounts.specs.Pools.{allUnused, poolsIn, poolsOf, residualOf, halve, halvesOf}
 use Rattle.amounts.specs.declared.pools.Pools.{Pools}
 use Rattle.statement.specs.declared.Line.{Line}
-use Rattle.lines.specs.Lines.{sharedLine, contingencyLine, fppLine, usedLine, unusedLine, unitLines, fppRest, usedRest, unusedRest, restLines, aceLine, asoeLine}
+use Rattle.lines.specs.Lines.{sharedLine, contingencyLine, unusedLine, unitLines, unusedRest, restLines}
 use Rattle.settlement.specs.Settle.{ofConstraint, regionLines}
 use Rattle.guide.specs.Numbers.{round, million}
 use Rattle.guide.specs.Signed.{Energies, SignedConstraint, SignedUnit, SignedContract}

@@ -4,9 +4,9 @@ use Prim.Native.Nat.{ℕ, zero, suc, _+_, _-_, _*_, _≤_, _<_}
 use mathlib.Core.Path.{_≡_, refl, sym, ap, _∙_}
 use mathlib.Core.Bool.{Bool, true, false, cond}
 use native.Mathlib.Omega.{arith}
-use native.Mathlib.Nat.{mul-zero, zero-mul, mul-comm, div-zero, le-refl}
+use native.Mathlib.Nat.{mul-zero, mul-comm, div-zero, le-refl}
 use borrow.Author.Tests.{le-ltb}
-use lib.IntN.{ℤ, pos, negsuc, negℤ, natAbs, _+ℤ_, _-ℤ_, _*ℤ_, +ℤ-idl, +ℤ-idr, negℤ-negℤ, negℤ-+ℤ, *ℤ-comm}
+use lib.IntN.{ℤ, pos, negℤ, natAbs, _+ℤ_, _-ℤ_, _*ℤ_, +ℤ-idl, +ℤ-idr, negℤ-negℤ, negℤ-+ℤ, *ℤ-comm}
 use Rattle.ground.specs.Round.{roundN, roundZ}
 use Rattle.ground.specs.Sign.{less}
 use Rattle.ground.specs.Sizes.{Sides, above, below}
