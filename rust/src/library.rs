@@ -302,3 +302,43 @@ mod bridged {
 pub(crate) use bridged::{balance, check, header, line, rewrite, statement};
 #[cfg(any(target_arch = "x86_64", feature = "native"))]
 pub(crate) use linked::{balance, check, header, line, rewrite, statement};
+
+#[cfg(test)]
+mod tests {
+    use super::{Entry, Heading, Pool, Verdict, Written};
+    use std::mem::offset_of;
+
+    const HEADER: &str = include_str!("../../include/fervolatro.h");
+
+    /// The fields of a struct of the header, each with its offset: all have 64 bits.
+    fn fields_in_header(name: &str) -> Vec<(&'static str, usize)> {
+        let before = HEADER.split(&format!("}} {name};")).next();
+        let body = before.and_then(|text| text.rsplit("typedef struct {").next());
+        let fields = body.expect("the header has the struct").split(';');
+        let names = fields.filter_map(|field| match field.trim().split_once(' ') {
+            Some(("uint64_t" | "int64_t", name)) => Some(name),
+            Some((kind, name)) => panic!("{name} is a {kind}"),
+            None => None,
+        });
+        names.zip((0..).step_by(8)).collect()
+    }
+
+    macro_rules! assert_layout {
+        ($of:ty, $name:literal, $size:literal: $($field:ident)*) => {
+            let here = [$((stringify!($field), offset_of!($of, $field))),*];
+            assert_eq!(fields_in_header($name), here, $name);
+            assert_eq!(size_of::<$of>(), $size, $name);
+        };
+    }
+
+    #[test]
+    fn answers_have_the_header_s_fields() {
+        assert_layout!(Verdict, "fervolatro_verdict", 16: refusal place);
+        assert_layout!(Written, "fervolatro_written", 24: refusal place length);
+        assert_layout!(Pool, "fervolatro_pool", 40: refusal place amount lines sum);
+        assert_layout!(Heading, "fervolatro_heading", 56:
+            refusal place account date interval run lines);
+        assert_layout!(Entry, "fervolatro_entry", 56:
+            refusal place id part regions unit amount);
+    }
+}

@@ -1,13 +1,14 @@
 -- What was found over a book's rows, said of the account's own rows; and in an accepted book its energy is at most its region's.
 -- Assumes nothing.
 use Prim.Native.Nat.{ℕ, _+_, _<_}
-use mathlib.Core.Path.{_≡_, refl}
+use mathlib.Core.Path.{_≡_, refl, sym, _∙_}
 use mathlib.Core.Bool.{Bool, true, false, cond, not, _&&_}
 use native.Mathlib.Omega.{arith}
 use lib.Dec.{eqb}
 use Rattle.records.specs.Facts.{EntryRule}
 use Rattle.records.specs.declared.rows.EnergyRow.{EnergyRow}
-use Rattle.totals.specs.Totals.{entryOf}
+use Rattle.totals.specs.Totals.{Five, entryOf}
+use Rattle.totals.proofs.Turns.{totals-once}
 use Rattle.book.specs.Book.{Book}
 use Rattle.book.specs.Accepted.{ownIn, Within, Promise}
 use Rattle.accounts.specs.Rows.{rowsOf, keep, sumOf, none}
@@ -51,6 +52,12 @@ module _ {B : Book} (h : Promise B) (account g : ℕ) where
       }
 
 -- ---- what was found
+
+-- no second thing fits
+pub held-once : (energy : ℕ → EnergyRow) (n account : ℕ) (h k : Held) → Five (h .own) → Five (k .own) → HeldIs energy n account h → HeldIs energy n account k → h ≡ k
+held-once energy n account h k l m f g =
+    let own = totals-once (h .own) (k .own) l m (λ r b. f .own r b ∙ sym (g .own r b)) in
+    λ j. record { own = own j; any = (f .any ∙ sym (g .any)) j }
 
 module _ (B : Book) {account : ℕ} {h : Held} (f : HeldIs (B .energy) (B .header .energies) account h) where
   -- the energy is that of the account's rows

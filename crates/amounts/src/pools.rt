@@ -6,6 +6,7 @@ ghost use Rattle.records.specs.Facts.{ConstraintRule};
 ghost use Rattle.amounts.specs.Pools.{poolsOf, residualOf, halvesOf};
 ghost use Rattle.amounts.specs.Bounds.{SmallPools};
 use crate::shares;
+use ground::round;
 use records::kinds::Mode;
 use records::rows::Constraint;
 
@@ -34,7 +35,7 @@ pub struct Halves {
 fn fpp_pool(price: u32, response: u32) -> u64
     ensures { λ x. ⌜ x ≡ roundN (price * response) 120 ⌝ }
 {
-    ((price as u64) * (response as u64) + 60) / 120
+    round::nearest((price as u64) * (response as u64), 120)
 }
 
 // Only a factored constraint's price, response and usage are read.
@@ -82,7 +83,7 @@ pub fn halves_of(payment: u64, factor: u32) -> Halves
     ensures { λ x. ⌜ x ≡ halvesOf payment factor ⌝ }
 {
     let part = shares::share(payment, factor as u64, 1000000);
-    let consumed = (part + 1) / 2;
+    let consumed = round::nearest(part, 2);
     Halves {
         consumed,
         sent: part - consumed,

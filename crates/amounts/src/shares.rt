@@ -5,15 +5,15 @@ ghost use Prim.Native.Nat.{_*_, _≤_, _<_};
 ghost use Rattle.ground.specs.Round.{roundN};
 ghost use Rattle.ground.specs.Sign.{less};
 ghost use Rattle.amounts.specs.Shares.{byFactor, byEnergy};
+use ground::round;
 use ground::sign;
 
-// pool x own / total, to the nearest. Half of the divisor is added first, which fits, since pools and totals are small: one division and
-// no test, where quotient and remainder take a division or a product more.
+// pool x own / total, to the nearest. The product fits, since pools and totals are small.
 pub fn share(pool: u64, own: u64, total: u64) -> u64
     requires { ⌜ (pool ≤ 50000000000) × ((own ≤ total) × ((0 < total) × (total ≤ 100000000))) ⌝ }
     ensures { λ r. ⌜ r ≡ roundN (pool * own) total ⌝ }
 {
-    (pool * own + total / 2) / total
+    round::nearest(pool * own, total)
 }
 
 // What is credited less what is charged: of one line, or summed over lines.

@@ -17,6 +17,7 @@ use crate::kinds::Kind;
 use crate::places::Place;
 use book::header;
 use book::header::Header;
+use records::kinds::Mode;
 use records::rows;
 use sections::Verdict;
 
@@ -42,7 +43,7 @@ fn constraint_balance(book: &[u8], h: Header, j: usize, kind: Kind) -> Balance
 {
     let r = rows::constraint_row(&book[84..], j);
     let count = pools::accounts(book, h);
-    if r.mode == 0 {
+    if r.mode == Mode::CONTINGENCY {
         return pools::contingency(book, h, r, count);
     }
     pools::regulation(book, h, r, kind, count)

@@ -6,6 +6,7 @@ ghost use Rattle.records.specs.Rows.{constraintRow};
 ghost use Rattle.balance.specs.Pools.{constraintPools};
 ghost use Rattle.balance.specs.Places.{KindIs, PlaceIs};
 use crate::kinds::Kind;
+use records::kinds::Mode;
 use records::rows;
 use records::rows::Constraint;
 
@@ -20,7 +21,7 @@ pub(crate) enum Place {
 fn pools_in(r: Constraint) -> u64
     ensures { λ x. ⌜ x ≡ length (constraintPools r) ⌝ }
 {
-    if r.mode == 1 { 3 } else { 1 }
+    if r.mode == Mode::FACTORED { 3 } else { 1 }
 }
 
 // Which of a constraint's pools stands at a place among them.
@@ -28,13 +29,13 @@ fn kind_at(r: Constraint, place: u64) -> Kind
     requires { ⌜ place < length (constraintPools r) ⌝ }
     ensures { λ x. ⌜ KindIs r place x ⌝ }
 {
-    if r.mode == 0 {
+    if r.mode == Mode::CONTINGENCY {
         return Kind::Contingency;
     }
-    if (r.mode == 1) & (place == 0) {
+    if (r.mode == Mode::FACTORED) & (place == 0) {
         return Kind::Fpp;
     }
-    if (r.mode == 1) & (place == 1) {
+    if (r.mode == Mode::FACTORED) & (place == 1) {
         return Kind::Used;
     }
     Kind::Unused

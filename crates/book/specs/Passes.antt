@@ -1,9 +1,12 @@
--- The checks of the short sections, by which a book is first looked at. Only contracts of inner functions speak of these.
+-- By what a book is first looked at: the checks of the short sections, and whether a verdict accepts. Only contracts of inner functions
+-- speak of these.
 use mathlib.Core.List.{List, [], _∷_}
+use mathlib.Core.Bool.{Bool, true, false}
 use Rattle.sections.specs.First.{firstBad}
 use Rattle.sections.specs.Order.{risesBy}
 use Rattle.sections.specs.Refusal.{atRecord}
 use Rattle.sections.specs.declared.Verdict.{Verdict}
+use Rattle.sections.specs.declared.Verdict.the-variants.{Accepted, Refused}
 use Rattle.records.specs.Rules.{entryOk, constraintOk, contractOk, constraintBelow, contractBelow}
 use Rattle.book.specs.Header.{contractsFrom}
 use Rattle.book.specs.Book.{Book}
@@ -17,3 +20,8 @@ shortChecks B =
     ∷ atRecord 6 84 40 (firstBad (risesBy constraintBelow (B .constraint)) (B .header .constraints))
     ∷ atRecord 6 (contractsFrom (B .header)) 36 (firstBad (risesBy contractBelow (B .contract)) (B .header .contracts))
     ∷ []
+
+-- nothing is refused
+unfoldable pub accepts : Verdict → Bool
+accepts Accepted = true
+accepts (Refused number place) = false

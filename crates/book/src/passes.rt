@@ -1,13 +1,11 @@
 // Whether no check refuses the records of a book, each long section in one pass. Books are accepted far more often than not, and which
 // check refuses one, and where, is looked for only then.
 ghost use mathlib.Core.Path.{_≡_};
-ghost use mathlib.Core.Bool.{true};
 ghost use Rattle.sections.specs.Refusal.{firstOf};
-ghost use Rattle.sections.specs.declared.Verdict.the-variants.{Accepted};
 ghost use Rattle.book.specs.Book.{bookIn};
 ghost use Rattle.book.specs.Table.{recordChecks};
 ghost use Rattle.book.specs.Facts.{Laid};
-ghost use Rattle.book.specs.Passes.{shortChecks};
+ghost use Rattle.book.specs.Passes.{shortChecks, accepts};
 use crate::checks;
 use crate::header::Header;
 use quick::energies;
@@ -36,7 +34,7 @@ fn short_sections(book: &[u8], h: Header) -> Verdict
 // Whether no check refuses the book.
 pub(crate) fn none_refuses(book: &[u8], h: Header) -> bool
     requires { ⌜ Laid (now book) h ⌝ }
-    ensures { λ b. ⌜ (b ≡ true → firstOf (recordChecks (bookIn (now (book .entry)) h)) ≡ Accepted) ⌝ }
+    ensures { λ b. ⌜ b ≡ accepts (firstOf (recordChecks (bookIn (now (book .entry)) h))) ⌝ }
 {
     if let Verdict::Refused(_, _) = short_sections(book, h) {
         return false;

@@ -1,23 +1,20 @@
--- The cases that the document works out, each beside what the definitions give.
+-- The cases that the document works out, each beside what the definitions of the statement give for the worked interval's bytes.
 -- 01, Proved cases: "rounding of 1/2, -1/2, 3/2, -7/4, 1/4 gives 1, -1, 2, -2, 0; the FPP pool 7,391,250; used 5,584,520; unused 8,376,780;
 -- unit 3's FPP line 221,738; residual lines -27,717, -20,942, -26,177."
-use Prim.Native.Nat.{ℕ, _+_}
+use Prim.Native.Nat.{ℕ}
 use mathlib.Core.Path.{_≡_}
-use mathlib.Core.List.{List, [], _∷_}
+use mathlib.Core.List.{List, [], _∷_, _++_}
 use mathlib.Core.Bool.{true, false}
 use lib.IntN.{ℤ}
 use Rattle.ground.specs.Sign.{signed}
-use Rattle.ground.specs.Round.{roundZ}
-use Rattle.records.specs.declared.rows.Constraint.{Constraint}
+use Rattle.book.specs.Book.{bookOf}
 use Rattle.amounts.specs.declared.pools.Pools.{Pools}
-use Rattle.amounts.specs.declared.pools.Residual.{Residual}
-use Rattle.amounts.specs.Pools.{poolsOf, residualOf}
-use Rattle.amounts.specs.Shares.{byFactor, byEnergy}
-
--- a case: what a definition gives, and the number that the document gives
-pub record Case : Type 0 where
-  pub what : ℤ
-  pub is : ℤ
+use Rattle.amounts.specs.Pools.{poolsOf}
+use Rattle.amounts.specs.Shares.{byEnergy}
+use Rattle.accounts.specs.Account.{publicOf, rowsOfAccount}
+use Rattle.statement.specs.declared.Line.{Line}
+use Rattle.settlement.specs.Settle.{linesOf}
+use Rattle.cases.specs.Written.{heading, entry, constraint, unitRow, energyRow}
 
 -- a number above 0 and one below it, as the document writes them
 abbrev pub plus : ℕ → ℤ
@@ -26,61 +23,103 @@ plus n = signed false n
 abbrev pub minus : ℕ → ℤ
 minus n = signed true n
 
--- ---- 01, Worked interval
+-- ---- 01, Worked interval: "Book of 272 bytes: date 20250608, interval 1, run 1."
 
--- "Constraint 500, service 9, regions 1, mode 1, cost 13,961,300, price 9,855, RCR 90,000, usage 400,000, RCF -300,000, DRCF -250,000."
-abbrev pub worked : Constraint
+-- its bytes, as books/worked.book has them
+abbrev pub worked : List ℕ
 worked =
-    record {
-      id = 500;
-      service = 9;
-      mask = 1;
-      mode = 1;
-      spare = 0;
-      cost = 13961300;
-      price = 9855;
-      rcr = 90000;
-      usage = 400000;
-      plus = 0;
-      minus = 300000;
-      drcf = 250000;
-      tail = 0;
-    }
+    (82 ∷ 67 ∷ 66 ∷ 0 ∷ 1 ∷ 0 ∷ 1 ∷ 0 ∷ 240 ∷ 255 ∷ 52 ∷ 1 ∷ 1 ∷ 0 ∷ 1 ∷ 0 ∷ 5 ∷ 0 ∷ 2 ∷ 0 ∷ 0 ∷ 0 ∷ 0 ∷ 0 ∷ [])
+    ++ (40 ∷ 131 ∷ 240 ∷ 255 ∷ 40 ∷ 237 ∷ 8 ∷ 0 ∷ 0 ∷ 106 ∷ 24 ∷ 0 ∷ [])
+    ++ (0 ∷ 0 ∷ 0 ∷ 0 ∷ 0 ∷ 0 ∷ 0 ∷ 0 ∷ 0 ∷ 0 ∷ 0 ∷ 0 ∷ [])
+    ++ (0 ∷ 0 ∷ 0 ∷ 0 ∷ 0 ∷ 0 ∷ 0 ∷ 0 ∷ 0 ∷ 0 ∷ 0 ∷ 0 ∷ [])
+    ++ (0 ∷ 0 ∷ 0 ∷ 0 ∷ 0 ∷ 0 ∷ 0 ∷ 0 ∷ 0 ∷ 0 ∷ 0 ∷ 0 ∷ [])
+    ++ (0 ∷ 0 ∷ 0 ∷ 0 ∷ 0 ∷ 0 ∷ 0 ∷ 0 ∷ 0 ∷ 0 ∷ 0 ∷ 0 ∷ [])
+    ++ (244 ∷ 1 ∷ 0 ∷ 0 ∷ 9 ∷ 1 ∷ 1 ∷ 0 ∷ 84 ∷ 8 ∷ 213 ∷ 0 ∷ 0 ∷ 0 ∷ 0 ∷ 0 ∷ 127 ∷ 38 ∷ 0 ∷ 0 ∷ [])
+    ++ (144 ∷ 95 ∷ 1 ∷ 0 ∷ 128 ∷ 26 ∷ 6 ∷ 0 ∷ 32 ∷ 108 ∷ 251 ∷ 255 ∷ 112 ∷ 47 ∷ 252 ∷ 255 ∷ 0 ∷ 0 ∷ 0 ∷ 0 ∷ [])
+    ++ (244 ∷ 1 ∷ 0 ∷ 0 ∷ 1 ∷ 0 ∷ 0 ∷ 0 ∷ 7 ∷ 0 ∷ 0 ∷ 0 ∷ 128 ∷ 56 ∷ 1 ∷ 0 ∷ 192 ∷ 99 ∷ 255 ∷ 255 ∷ [])
+    ++ (244 ∷ 1 ∷ 0 ∷ 0 ∷ 2 ∷ 0 ∷ 0 ∷ 0 ∷ 7 ∷ 0 ∷ 0 ∷ 0 ∷ 224 ∷ 177 ∷ 255 ∷ 255 ∷ 240 ∷ 216 ∷ 255 ∷ 255 ∷ [])
+    ++ (244 ∷ 1 ∷ 0 ∷ 0 ∷ 3 ∷ 0 ∷ 0 ∷ 0 ∷ 7 ∷ 0 ∷ 0 ∷ 0 ∷ 48 ∷ 117 ∷ 0 ∷ 0 ∷ 0 ∷ 0 ∷ 0 ∷ 0 ∷ [])
+    ++ (244 ∷ 1 ∷ 0 ∷ 0 ∷ 4 ∷ 0 ∷ 0 ∷ 0 ∷ 9 ∷ 0 ∷ 0 ∷ 0 ∷ 144 ∷ 148 ∷ 13 ∷ 0 ∷ 0 ∷ 0 ∷ 0 ∷ 0 ∷ [])
+    ++ (244 ∷ 1 ∷ 0 ∷ 0 ∷ 5 ∷ 0 ∷ 0 ∷ 0 ∷ 9 ∷ 0 ∷ 0 ∷ 0 ∷ 192 ∷ 159 ∷ 245 ∷ 255 ∷ 160 ∷ 81 ∷ 245 ∷ 255 ∷ [])
+    ++ (7 ∷ 0 ∷ 0 ∷ 0 ∷ 0 ∷ 0 ∷ 0 ∷ 0 ∷ 104 ∷ 197 ∷ 255 ∷ 255 ∷ 136 ∷ 19 ∷ 0 ∷ 0 ∷ 104 ∷ 197 ∷ 255 ∷ 255 ∷ 136 ∷ 19 ∷ 0 ∷ 0 ∷ [])
+    ++ (9 ∷ 0 ∷ 0 ∷ 0 ∷ 0 ∷ 0 ∷ 0 ∷ 0 ∷ 192 ∷ 189 ∷ 240 ∷ 255 ∷ 160 ∷ 217 ∷ 8 ∷ 0 ∷ 192 ∷ 189 ∷ 240 ∷ 255 ∷ 160 ∷ 217 ∷ 8 ∷ 0 ∷ [])
 
--- its pools, and its residual pools
+-- the fields that the document gives. "Constraint 500, service 9, regions 1, mode 1, cost 13,961,300, price 9,855, RCR 90,000, usage 400,000, RCF
+-- -300,000, DRCF -250,000. Units (account; CF; DCF): 1 (7; 80,000; -40,000), 2 (7; -20,000; -10,000), 3 (7; 30,000; 0), 4 (9; 890,000; 0), 5 (9;
+-- -680,000; -700,000). Energy in region 0, all residual: account 7, ACE -15,000, ASOE 5,000; account 9, -1,000,000 and 580,000."
+abbrev pub workedFields : List ℕ
+workedFields =
+    heading 1 20250608 1 1 5 2 0
+    ++ entry (minus 1015000) (plus 585000) (plus 1600000)
+    ++ entry (plus 0) (plus 0) (plus 0)
+    ++ entry (plus 0) (plus 0) (plus 0)
+    ++ entry (plus 0) (plus 0) (plus 0)
+    ++ entry (plus 0) (plus 0) (plus 0)
+    ++ constraint 500 9 1 1 (plus 13961300) 9855 90000 400000 (minus 300000) (minus 250000)
+    ++ unitRow 500 1 7 (plus 80000) (minus 40000)
+    ++ unitRow 500 2 7 (minus 20000) (minus 10000)
+    ++ unitRow 500 3 7 (plus 30000) (plus 0)
+    ++ unitRow 500 4 9 (plus 890000) (plus 0)
+    ++ unitRow 500 5 9 (minus 680000) (minus 700000)
+    ++ energyRow 7 0 (minus 15000) (plus 5000) (minus 15000) (plus 5000)
+    ++ energyRow 9 0 (minus 1000000) (plus 580000) (minus 1000000) (plus 580000)
+
+-- the pools of its constraint
 abbrev pub workedPools : Pools
-workedPools = poolsOf worked
+workedPools = poolsOf (bookOf worked .constraint 0)
 
-abbrev pub workedRest : Residual
-workedRest = residualOf worked workedPools
+-- account 7's lines
+abbrev pub workedLines : List Line
+workedLines = linesOf (publicOf (bookOf worked)) (rowsOfAccount (bookOf worked) 7)
 
--- "Energy in region 0, all residual: account 7, ACE -15,000, ASOE 5,000; account 9, -1,000,000 and 580,000."
--- TE of account 7, and ATE
-abbrev pub ownTotal : ℕ
-ownTotal = 15000 + 5000
-
-abbrev pub regionTotal : ℕ
-regionTotal = 15000 + 5000 + 1000000 + 580000
+-- a line of the listing: constraint 500 in region 0, a part, a unit, and the amount in ten-thousandths of a dollar
+abbrev pub listed : ℕ → ℕ → ℤ → Line
+listed part unit amount = record { id = 500; part = part; regions = 1; unit = unit; amount = amount }
 
 -- ---- the table, in the document's order
 
+-- what a definition gives, and what the document says
+pub data Case : Type 0 where
+  number : ℤ → ℤ → Case
+  lines : List Line → List Line → Case
+  bytes : List ℕ → List ℕ → Case
+
+-- a quotient, rounded as a share of a pool is: credit - charge over a total
+abbrev pub quotient : ℕ → ℕ → ℕ → ℤ
+quotient credit charge total = byEnergy credit charge 1 total
+
 abbrev pub table : List Case
 table =
-    record { what = roundZ (plus 1) 2; is = plus 1 }
-    ∷ record { what = roundZ (minus 1) 2; is = minus 1 }
-    ∷ record { what = roundZ (plus 3) 2; is = plus 2 }
-    ∷ record { what = roundZ (minus 7) 4; is = minus 2 }
-    ∷ record { what = roundZ (plus 1) 4; is = plus 0 }
-    ∷ record { what = plus (workedPools .fpp); is = plus 7391250 }
-    ∷ record { what = plus (workedPools .used); is = plus 5584520 }
-    ∷ record { what = plus (workedPools .unused); is = plus 8376780 }
-    ∷ record { what = byFactor (workedPools .fpp) 30000 0; is = plus 221738 }
-    ∷ record { what = byEnergy (workedRest .credit) (workedRest .charge) ownTotal regionTotal; is = minus 27717 }
-    ∷ record { what = byEnergy 0 (workedRest .used) ownTotal regionTotal; is = minus 20942 }
-    ∷ record { what = byEnergy 0 (workedRest .unused) ownTotal regionTotal; is = minus 26177 }
+    number (quotient 1 0 2) (plus 1)
+    ∷ number (quotient 0 1 2) (minus 1)
+    ∷ number (quotient 3 0 2) (plus 2)
+    ∷ number (quotient 0 7 4) (minus 2)
+    ∷ number (quotient 1 0 4) (plus 0)
+    ∷ bytes worked workedFields
+    ∷ number (plus (workedPools .fpp)) (plus 7391250)
+    ∷ number (plus (workedPools .used)) (plus 5584520)
+    ∷ number (plus (workedPools .unused)) (plus 8376780)
+    ∷ lines workedLines (listed 3 1 (plus 591300)
+    ∷ listed 4 1 (plus 0)
+    ∷ listed 5 1 (minus 335071)
+    ∷ listed 3 2 (minus 147825)
+    ∷ listed 4 2 (minus 111690)
+    ∷ listed 5 2 (minus 83768)
+    ∷ listed 3 3 (plus 221738)
+    ∷ listed 4 3 (plus 0)
+    ∷ listed 5 3 (plus 0)
+    ∷ listed 6 0 (minus 27717)
+    ∷ listed 7 0 (minus 20942)
+    ∷ listed 8 0 (minus 26177)
+    ∷ [])
     ∷ []
+
+abbrev pub Holds : Case → Type 0
+Holds (number what is) = what ≡ is
+Holds (lines what is) = what ≡ is
+Holds (bytes what is) = what ≡ is
 
 -- every case of a table holds
 abbrev pub AllHold : List Case → Type 0
 AllHold [] = Unit
-AllHold (c ∷ cs) = (c .what ≡ c .is) × AllHold cs
+AllHold (c ∷ cs) = Holds c × AllHold cs

@@ -1,6 +1,6 @@
 -- The sums over a run of unit rows, turn by turn. Assumes nothing.
 use Prim.Native.Nat.{ℕ, _+_, _≤_, _<_}
-use mathlib.Core.Path.{_≡_, refl, ap, _∙_}
+use mathlib.Core.Path.{_≡_, refl, sym, ap, _∙_}
 use mathlib.Core.Bool.{Bool, true, false, cond, not, _&&_, _||_}
 use lib.Dec.{eqb}
 use native.Mathlib.Omega.{arith}
@@ -15,6 +15,11 @@ use Rattle.factors.specs.Naming.{keyOf}
 use Rattle.factors.specs.Factors.{sumsOk, factorsAt, sumOver, noFactor}
 use Rattle.factors.specs.Runs.{Added, RunOf, Walked}
 use Rattle.factors.specs.declared.sums.Sums.{Sums}
+
+-- no second sums are those with one row more
+pub added-once : (t : Sums) (r : UnitRow) (x y : Sums) → Added t r x → Added t r y → x ≡ y
+added-once t r x y a b =
+    λ j. record { next = (a .next ∙ sym (b .next)) j; plus = (a .plus ∙ sym (b .plus)) j; minus = (a .minus ∙ sym (b .minus)) j; dcf = (a .dcf ∙ sym (b .dcf)) j }
 
 module _ (unit : ℕ → UnitRow) (m k : ℕ) where
   -- the sums over the rows so far, and where the cursor stands

@@ -7,6 +7,7 @@ ghost use Rattle.sections.specs.Order.{Rises, Keeps};
 ghost use Rattle.sections.specs.Walk.{Under, Sought};
 ghost use Rattle.records.specs.Rows.{constraintRow, unitRow};
 ghost use Rattle.factors.specs.Naming.{idOf, keyOf, namedAt};
+use records::kinds::Mode;
 use records::rows;
 use sections::Checked;
 
@@ -39,7 +40,7 @@ fn named(cons: &[u8], n: usize, units: &[u8], u: usize, c: usize) -> bool
     }
     let r = rows::constraint_row(cons, c);
     let q = rows::unit_row(units, u);
-    (r.id == q.constraint) & (r.mode != 0)
+    (r.id == q.constraint) & (r.mode != Mode::CONTINGENCY)
 }
 
 // The first unit row that names no constraint here, or one of mode 0. The cursor c only moves forward.

@@ -10,6 +10,7 @@ ghost use Rattle.records.specs.Rows.{constraintRow, unitRow};
 ghost use Rattle.factors.specs.Naming.{idOf, keyOf};
 ghost use Rattle.factors.specs.Factors.{sumsOk, factorsAt};
 ghost use Rattle.factors.specs.Runs.{Added, RunOf, Walked};
+use records::kinds::Mode;
 use records::rows;
 use records::rows::Constraint;
 use records::rows::UnitRow;
@@ -52,9 +53,9 @@ pub fn sums_ok(r: Constraint, t: Sums) -> bool
     let plus = more(t.plus, r.plus);
     let minus = more(t.minus, r.minus);
     let dcf = more(t.dcf, r.drcf);
-    (r.mode == 0)
-        | ((r.mode == 1) & (plus == minus) & (minus == 1000000) & (dcf == 1000000))
-        | ((r.mode == 2) & (t.plus + t.minus == 0) & (dcf == 1000000))
+    (r.mode == Mode::CONTINGENCY)
+        | ((r.mode == Mode::FACTORED) & (plus == minus) & (minus == 1000000) & (dcf == 1000000))
+        | ((r.mode == Mode::DEFAULT) & (t.plus + t.minus == 0) & (dcf == 1000000))
 }
 
 // The sums over the rows of one constraint, from the first of them on.

@@ -9,6 +9,7 @@ ghost use Rattle.lines.specs.Emitted.{Emitted, Room};
 use crate::make;
 use amounts::pools::Pools;
 use amounts::pools::Residual;
+use records::kinds::Mode;
 use records::rows::Constraint;
 use records::rows::UnitRow;
 use statement::Line;
@@ -37,7 +38,7 @@ pub fn emit_unit(buf: &mut [u8], place: usize, r: Constraint, p: Pools, q: UnitR
     ensures { λ e. ⌜ Emitted (now (buf .entry)) place (unitLines r p q) (now (buf .exit)) e ⌝ }
 {
     let unused = make::unused_line(r, p, q);
-    if r.mode == 1 {
+    if r.mode == Mode::FACTORED {
         let fpp = make::fpp_line(r, p, q);
         let used = make::used_line(r, p, q);
         return emit_three(buf, place, fpp, used, unused);
@@ -60,7 +61,7 @@ pub fn emit_rest(
     ensures { λ e. ⌜ Emitted (now (buf .entry)) place (restLines r x own total) (now (buf .exit)) e ⌝ }
 {
     let unused = make::unused_rest(r, x, own, total);
-    if r.mode == 1 {
+    if r.mode == Mode::FACTORED {
         let fpp = make::fpp_rest(r, x, own, total);
         let used = make::used_rest(r, x, own, total);
         return emit_three(buf, place, fpp, used, unused);

@@ -1,63 +1,77 @@
--- Rows that were summed and entries that have their sums keep checks 5, 6 and 9. Assumes nothing.
+-- Rows that were summed and entries that have their sums keep checks 5, 6 and 9, and where these pass all rows are summed. Assumes nothing.
 use Prim.Native.Nat.{ℕ, _≤_, _<_}
-use mathlib.Core.Path.{_≡_, refl, sym}
-use mathlib.Core.Bool.{Bool, true}
-use mathlib.Core.List.{List, [], _∷_}
+use mathlib.Core.Path.{_≡_, refl, sym, _∙_}
+use mathlib.Core.Bool.{Bool, true, false}
+use mathlib.Core.List.{[], _∷_}
+use mathlib.Core.Logic.{⊎-elim}
 use native.Mathlib.Omega.{arith}
-use native.Mathlib.Nat.{le-trans}
-use borrow.Author.Tests.{le-leb, eq-eqb, eqb-true}
+use native.Mathlib.Nat.{eq-or-lt-of-le}
 use lib.ListN.{getD}
 use Rattle.ground.specs.Every.{allOf}
 use Rattle.ground.proofs.Every.{every, all}
-use Rattle.sections.specs.Total.{keyed}
-use Rattle.sections.specs.Walk.{Split}
+use Rattle.sections.specs.Total.{keyed, totalOf}
+use Rattle.sections.proofs.First.{first-good}
 use Rattle.sections.proofs.Total.{keyed-hit, total-has}
-use Rattle.records.specs.Rules.{energyTests, energyOk}
+use Rattle.records.specs.Facts.{EntryRule}
 use Rattle.records.specs.declared.rows.Entry.{Entry}
 use Rattle.records.specs.declared.rows.EnergyRow.{EnergyRow}
-use Rattle.totals.specs.Sums.{regionOf, aceOf, asoeOf, entryTests}
+use Rattle.totals.specs.Sums.{regionOf, aceOf, asoeOf, entryIs, entryAt}
 use Rattle.totals.specs.declared.entries.Totals.{Totals}
+use Rattle.totals.proofs.Said.{entry-of}
 use Rattle.totals.proofs.Turns.{entry-is-at, five}
-use Rattle.quick.specs.Holds.{EnergiesHold}
-use Rattle.quick.specs.Energies.{RowHolds, SummedIs, EntryHolds}
+use Rattle.quick.specs.Holds.{energiesHold}
+use Rattle.quick.specs.Energies.{SummedIs}
+use Rattle.quick.proofs.Said.{same-answer, never-holds, no-yes, EnergiesHold, energies-say, energies-said}
+use Rattle.quick.proofs.EnergyRows.{fields-of, from-fields}
+use Rattle.quick.proofs.EnergyTurns.{RowKeeps, keeps-says, keeps-said}
 
--- a group's sum is at least each of its records' numbers
-split-has : (group f : ℕ → ℕ) (n i : ℕ) {l : List ℕ} → Split 5 group f n l → i < n → group i < 5 → f i ≤ getD l (group i) 0
-split-has group f n i s l b =
-    rw (s .each (group i) b, keyed-hit group (group i) f i refl) (total-has (keyed group (group i) f) n i l)
-
--- a row whose energies are within the limit keeps check 5
-fields-of : (r : EnergyRow) → RowHolds 4294967295 r → r .ace ≤ 20000000 → r .asoe ≤ 20000000 → energyOk r ≡ true
-fields-of r h a b =
-    let up = h .above in
-    let low = h .region in
-    all (energyTests r)
-    (le-leb 1 (r .account) (omega arith), (le-leb (r .region) 4 low, (eq-eqb (r .spare) 0 (h .spare), (le-leb (r .ace) 20000000 a, (le-leb (r .asoe) 20000000 b, (le-leb (r .race) (r .ace) (h .race), (le-leb (r .rasoe) (r .asoe) (h .rasoe), tt)))))))
+-- a region's sum is at least each of its rows' numbers
+sum-has : (group f : ℕ → ℕ) (n i : ℕ) → i < n → f i ≤ totalOf group (group i) f n
+sum-has group f n i l = rw (keyed-hit group (group i) f i refl) (total-has (keyed group (group i) f) n i l)
 
 module _ (energy : ℕ → EnergyRow) (n : ℕ) (entry : ℕ → Entry) where
-  -- each entry has its region's sums
-  holds : {t : Totals} → SummedIs energy n t → ((g : ℕ) → g < 5 → EntryHolds (entry g) t g) → EnergiesHold energy n entry
-  holds {t} s h =
-      record {
-        fields = λ i l. let r = s .rows i l in
-            let b : energy i .region < 5 = omega (arith, r .region) in
-            let k = within (energy i .region) b in
-            fields-of (energy i) r (le-trans (split-has (regionOf energy) (aceOf energy) n i (s .sums .ace) l b) (k .0)) (le-trans (split-has (regionOf energy) (asoeOf energy) n i (s .sums .asoe) l b) (k .1));
-        order = s .order;
-        sums = λ g l. sym (entry-is-at energy n entry g (s .sums) l refl (sym (h g l .sums)));
-      }
+  -- where all checks pass, all rows are summed
+  pub energies-no : {i : ℕ} {t : Totals} → SummedIs energy n i t → (i ≡ n → ⊥) → false ≡ energiesHold energy n entry
+  energies-no {i} s d =
+      never-holds _ (λ e. let h = energies-say energy n entry e in
+      let l = short in
+      no-yes (s .ended l) (keeps-said energy i (record { fields = from-fields (energy i) (h .fields i l); order = h .order i l })))
     where
-      within : (g : ℕ) → g < 5 → (getD (t .ace) g 0 ≤ 20000000) × (getD (t .asoe) g 0 ≤ 20000000)
-      within g l =
-          let k = h g l in
-          let e = every (entryTests (entry g) (getD (t .ace) g 0) (getD (t .asoe) g 0) (getD (t .residual) g 0)) (k .sums) in
-          let a = eqb-true (entry g .ace) (getD (t .ace) g 0) (e .0) in
-          let b = eqb-true (entry g .asoe) (getD (t .asoe) g 0) (e .1 .0) in
-          (omega (arith, k .ace), omega (arith, k .asoe))
+      short : i < n
+      short = ⊎-elim (λ (e : i ≡ n). absurd (d e)) (λ (l : i < n). l) (eq-or-lt-of-le (s .high))
 
-  -- all n rows were summed, and the tests of the five entries hold joined
-  pub energies-hold : {m : ℕ} {t : Totals} {b₀ b₁ b₂ b₃ b₄ : Bool} → SummedIs energy m t → m ≡ n → (b₀ ≡ true → EntryHolds (entry 0) t 0) → (b₁ ≡ true → EntryHolds (entry 1) t 1) → (b₂ ≡ true → EntryHolds (entry 2) t 2) → (b₃ ≡ true → EntryHolds (entry 3) t 3) → (b₄ ≡ true → EntryHolds (entry 4) t 4) → allOf (b₀ ∷ b₁ ∷ b₂ ∷ b₃ ∷ b₄ ∷ []) ≡ true → EnergiesHold energy n entry
-  energies-hold {m} {t} {b₀} {b₁} {b₂} {b₃} {b₄} s q h₀ h₁ h₂ h₃ h₄ e =
-      let k = every (b₀ ∷ b₁ ∷ b₂ ∷ b₃ ∷ b₄ ∷ []) e in
-      holds (rw q at s)
-      (five (λ g. EntryHolds (entry g) t g) (h₀ (k .0)) (h₁ (k .1 .0)) (h₂ (k .1 .1 .0)) (h₃ (k .1 .1 .1 .0)) (h₄ (k .1 .1 .1 .1 .0)))
+  module _ (rules : (g : ℕ) → g < 5 → EntryRule (entry g)) {m : ℕ} {t : Totals} (s : SummedIs energy n m t) (q : m ≡ n) where
+    kept : (i : ℕ) → i < n → RowKeeps energy i
+    kept i l = keeps-says energy i (s .each i (omega arith))
+
+    -- the rows hold but for a limit, which the entries of their regions give
+    holds : ((g : ℕ) → g < 5 → entryAt energy n entry g ≡ true) → EnergiesHold energy n entry
+    holds h =
+        record {
+          fields = λ i l. let r = kept i l .fields in
+              let b : energy i .region < 5 = omega (arith, r .region) in
+              let sums = entry-of energy n entry (first-good _ 5 h) (energy i .region) b in
+              let rule = rules (energy i .region) b in
+              let ace = sum-has (regionOf energy) (aceOf energy) n i l in
+              let asoe = sum-has (regionOf energy) (asoeOf energy) n i l in
+              fields-of (energy i) r (omega (arith, sums .ace, rule .ace)) (omega (arith, sums .asoe, rule .asoe));
+          order = λ i l. kept i l .order;
+          sums = h;
+        }
+
+    entry-at : (g : ℕ) {b : Bool} → g < 5 → b ≡ entryIs (entry g) (getD (t .ace) g 0) (getD (t .asoe) g 0) (getD (t .residual) g 0) → b ≡ entryAt energy n entry g
+    entry-at g l e = entry-is-at energy n entry g (rw q at (s .sums)) l refl e
+
+    -- all rows were summed: the answer is what the tests of the five entries say joined
+    pub energies-yes : {b₀ b₁ b₂ b₃ b₄ : Bool} → b₀ ≡ entryIs (entry 0) (getD (t .ace) 0 0) (getD (t .asoe) 0 0) (getD (t .residual) 0 0) → b₁ ≡ entryIs (entry 1) (getD (t .ace) 1 0) (getD (t .asoe) 1 0) (getD (t .residual) 1 0) → b₂ ≡ entryIs (entry 2) (getD (t .ace) 2 0) (getD (t .asoe) 2 0) (getD (t .residual) 2 0) → b₃ ≡ entryIs (entry 3) (getD (t .ace) 3 0) (getD (t .asoe) 3 0) (getD (t .residual) 3 0) → b₄ ≡ entryIs (entry 4) (getD (t .ace) 4 0) (getD (t .asoe) 4 0) (getD (t .residual) 4 0) → allOf (b₀ ∷ b₁ ∷ b₂ ∷ b₃ ∷ b₄ ∷ []) ≡ energiesHold energy n entry
+    energies-yes {b₀} {b₁} {b₂} {b₃} {b₄} e₀ e₁ e₂ e₃ e₄ =
+        let p₀ = entry-at 0 (omega arith) e₀ in
+        let p₁ = entry-at 1 (omega arith) e₁ in
+        let p₂ = entry-at 2 (omega arith) e₂ in
+        let p₃ = entry-at 3 (omega arith) e₃ in
+        let p₄ = entry-at 4 (omega arith) e₄ in
+        same-answer _ _
+        (λ z. let k = every (b₀ ∷ b₁ ∷ b₂ ∷ b₃ ∷ b₄ ∷ []) z in
+        energies-said energy n entry (holds (five (λ g. entryAt energy n entry g ≡ true) (sym p₀ ∙ k .0) (sym p₁ ∙ k .1 .0) (sym p₂ ∙ k .1 .1 .0) (sym p₃ ∙ k .1 .1 .1 .0) (sym p₄ ∙ k .1 .1 .1 .1 .0))))
+        (λ z. let k = energies-say energy n entry z .sums in
+        all (b₀ ∷ b₁ ∷ b₂ ∷ b₃ ∷ b₄ ∷ []) (p₀ ∙ k 0 (omega arith), (p₁ ∙ k 1 (omega arith), (p₂ ∙ k 2 (omega arith), (p₃ ∙ k 3 (omega arith), (p₄ ∙ k 4 (omega arith), tt))))))

@@ -1,34 +1,29 @@
 -- The pass over the energy rows turn by turn: what is known of the rows so far, and of the last one's key. Assumes nothing.
-use Prim.Native.Nat.{ℕ, _+_, _-_, _*_, _≤_, _<_}
+use Prim.Native.Nat.{ℕ, suc, _+_, _-_, _*_, _≤_, _<_}
 use mathlib.Core.Path.{_≡_, refl, sym, ap, _∙_}
-use mathlib.Core.Bool.{Bool, true, false, _||_}
+use mathlib.Core.Bool.{Bool, true, false, not}
+use mathlib.Core.List.{List, [], _∷_}
 use mathlib.Core.Logic.{⊎-elim}
 use native.Mathlib.Omega.{arith}
-use native.Mathlib.Nat.{eq-or-lt-of-le, eq-zero-or-pos, not-suc-le-zero}
-use borrow.Author.Tests.{lt-ltb, eq-eqb}
-use lib.Dec.{ltb}
+use native.Mathlib.Nat.{eq-zero-or-pos}
+use borrow.Author.Count.{below-none, below-more}
+use borrow.Author.Tests.{not-true, not-false}
 use lib.ListN.{replicate}
-use Rattle.sections.specs.Order.{risesBy, pairBelow}
-use Rattle.sections.proofs.Order.{rises-first, rises-later}
+use lib.Seq.{ext-getD}
+use Rattle.ground.proofs.Every.{every, all}
+use Rattle.sections.specs.Order.{risesBy}
+use Rattle.sections.specs.Walk.{Split}
+use Rattle.sections.proofs.Order.{rises-first, rises-later, rises-step}
 use Rattle.sections.proofs.Search.{lt-or-ge}
-use Rattle.sections.proofs.Groups.{split-none, split-more, split-bound}
+use Rattle.sections.proofs.Groups.{split-more, split-bound}
 use Rattle.records.specs.Rules.{energyBelow}
 use Rattle.records.specs.declared.rows.EnergyRow.{EnergyRow}
 use Rattle.totals.specs.Turns.{TotalsOf}
 use Rattle.totals.specs.declared.entries.Totals.{Totals}
-use Rattle.quick.specs.Energies.{keyOf, RowHolds, Room, Added, SummedIs}
-
--- where keys rise, pairs of account and region do
-pair-below : (a x b y : ℕ) → a * 4294967296 + x < b * 4294967296 + y → y ≤ 4 → pairBelow a x b y ≡ true
-pair-below a x b y l h =
-    ⊎-elim
-    (λ (p : a < b). rw (lt-ltb a b p) refl)
-    (λ (p : b ≤ a). let e : a ≡ b = omega arith in rw (eq-eqb a b e, lt-ltb x y (omega arith)) (either (ltb a b)))
-    (lt-or-ge a b)
-  where
-    either : (t : Bool) → (t || true) ≡ true
-    either true = refl
-    either false = refl
+use Rattle.totals.proofs.Turns.{totals-none}
+use Rattle.quick.specs.Energies.{keyOf, rowHolds, rowKeeps, Room, Added, SummedIs}
+use Rattle.quick.proofs.Said.{same-answer, no-yes}
+use Rattle.quick.proofs.EnergyRows.{RowHolds, row-says, row-said, pair-below, below-pair}
 
 -- a row that holds after some key holds after each smaller one
 after : (a b : ℕ) {r : EnergyRow} → a ≤ b → RowHolds b r → RowHolds a r
@@ -37,33 +32,53 @@ after a b l h =
       above = omega (arith, h .above);
       region = h .region;
       spare = h .spare;
-      ace = h .ace;
-      asoe = h .asoe;
       race = h .race;
       rasoe = h .rasoe;
     }
 
--- an answer of false promises nothing
-pub refused : {A : Type 0} → _≡_ {A = Bool} false true → A
-refused e = let z : _≡_ {A = ℕ} 0 1 = cc in absurd (omega arith)
+-- five sums by region are no others
+split-once : (group f : ℕ → ℕ) (i : ℕ) {l x : List ℕ} → Split 5 group f i l → Split 5 group f i x → l ≡ x
+split-once group f i {l} {x} h g =
+    ext-getD 0 l x (h .long ∙ sym (g .long)) (λ k b. let m : k < 5 = rw (h .long) at b in h .each k m ∙ sym (g .each k m))
+
+-- energies of 32 bits
+pub record Narrow (r : EnergyRow) : Type 0 where
+  pub ace : r .ace < 4294967296
+  pub asoe : r .asoe < 4294967296
 
 module _ (energy : ℕ → EnergyRow) where
-  -- the rows before i hold, t has their sums, and the last one's key is `before`
+  -- what it says that row i keeps its rules, and back
+  pub record RowKeeps (i : ℕ) : Type 0 where
+    pub fields : RowHolds 4294967295 (energy i)
+    pub order : risesBy energyBelow energy i ≡ true
+
+  pub keeps-says : (i : ℕ) → rowKeeps energy i ≡ true → RowKeeps i
+  keeps-says i e =
+      let h = every (rowHolds 4294967295 (energy i) ∷ risesBy energyBelow energy i ∷ []) e in
+      record { fields = row-says 4294967295 (energy i) (h .0); order = h .1 .0 }
+
+  pub keeps-said : (i : ℕ) → RowKeeps i → rowKeeps energy i ≡ true
+  keeps-said i h =
+      all (rowHolds 4294967295 (energy i) ∷ risesBy energyBelow energy i ∷ []) (row-said 4294967295 (energy i) (h .fields), (h .order, tt))
+
+  -- the rows before i keep their rules, t has their sums, and the last one's key is `before`
   pub record Rows (i before : ℕ) (t : Totals) : Type 0 where
     pub low : 4294967295 ≤ before
+    pub first : i ≡ 0 → before ≡ 4294967295
     pub last : (i ≡ 0 → ⊥) → before ≡ keyOf (energy (i - 1))
-    pub held : SummedIs energy i t
+    pub each : (j : ℕ) → j < i → rowKeeps energy j ≡ true
+    pub narrow : (j : ℕ) → j < i → Narrow (energy j)
+    pub sums : TotalsOf energy i t
 
   pub rows-none : Rows 0 4294967295 (record { ace = replicate 5 0; asoe = replicate 5 0; residual = replicate 5 0 })
   rows-none =
       record {
         low = omega arith;
+        first = λ _. refl;
         last = λ no. absurd (no refl);
-        held = record {
-          rows = λ i l. absurd (not-suc-le-zero l);
-          order = λ i l. absurd (not-suc-le-zero l);
-          sums = record { ace = split-none _ _ 5; asoe = split-none _ _ 5; residual = split-none _ _ 5 };
-        };
+        each = below-none _;
+        narrow = below-none _;
+        sums = totals-none energy;
       }
 
   -- the sums with row i
@@ -76,48 +91,120 @@ module _ (energy : ℕ → EnergyRow) where
         residual = rw (p .residual) (split-more _ _ 5 i (h .residual) g (omega arith) (ap (λ (r : EnergyRow). r .race + r .rasoe) e));
       }
 
-  -- row i is above the row before it
-  rises-at : (i before : ℕ) → ((i ≡ 0 → ⊥) → before ≡ keyOf (energy (i - 1))) → RowHolds before (energy i) → risesBy energyBelow energy i ≡ true
-  rises-at i before last h =
-      ⊎-elim
-      (λ (e : i ≡ 0). sym (rises-first energyBelow energy i e))
-      (λ (l : 0 < i). let no : i ≡ 0 → ⊥ = λ (e : i ≡ 0). omega arith in
-      let k = last no in
-      sym (rises-later energyBelow energy i no refl refl (sym (pair-below (energy (i - 1) .account) (energy (i - 1) .region) (energy i .account) (energy i .region) (omega (arith, h .above)) (h .region)))))
-      (eq-zero-or-pos i)
+  -- row i holds after the last key exactly where it keeps its rules
+  row-exact : (i before : ℕ) {t : Totals} → Rows i before t → rowHolds before (energy i) ≡ rowKeeps energy i
+  row-exact i before s = same-answer _ _ there back
+    where
+      there : rowHolds before (energy i) ≡ true → rowKeeps energy i ≡ true
+      there e =
+          let h = row-says before (energy i) e in
+          keeps-said i (record { fields = after 4294967295 before (s .low) h; order = rises-at h })
+        where
+          rises-at : RowHolds before (energy i) → risesBy energyBelow energy i ≡ true
+          rises-at h =
+              ⊎-elim
+              (λ (e : i ≡ 0). sym (rises-first energyBelow energy i e))
+              (λ (l : 0 < i). let no : i ≡ 0 → ⊥ = λ (e : i ≡ 0). omega arith in
+              let k = s .last no in
+              sym (rises-later energyBelow energy i no refl refl (sym (pair-below (energy (i - 1) .account) (energy (i - 1) .region) (energy i .account) (energy i .region) (omega (arith, h .above)) (h .region)))))
+              (eq-zero-or-pos i)
 
-  -- a turn: r is row i, and x the sums with it
-  pub rows-more : (i : ℕ) {before head key : ℕ} {t x : Totals} {r : EnergyRow} → Rows i before t → r ≡ energy i → head ≡ r .region + 256 * r .spare → RowHolds before r → Added t head r x → key ≡ r .account * 4294967296 + head → Rows (i + 1) key x
-  rows-more i {before} {head} {key} {t} {x} {r} s e d h p k =
-      let g : head ≡ r .region = omega (arith, h .spare) in
-      let row : RowHolds before (energy i) = rw e at h in
-      let up = h .above in
-      let low = s .low in
-      let back : i + 1 - 1 ≡ i = omega arith in
-      record {
-        low = omega arith;
-        last = λ _. rw (back, ← e) (omega arith);
-        held = record {
-          rows = λ j l. ⊎-elim (λ (q : j ≡ i). rw q (after 4294967295 before low row)) (λ (m : j < i). s .held .rows j m) (eq-or-lt-of-le (omega arith));
-          order = λ j l. ⊎-elim (λ (q : j ≡ i). rw q (rises-at i before (s .last) row)) (λ (m : j < i). s .held .order j m) (eq-or-lt-of-le (omega arith));
-          sums = sums-more i (s .held .sums) e g (omega (arith, h .region)) p;
-        };
-      }
+      back : rowKeeps energy i ≡ true → rowHolds before (energy i) ≡ true
+      back e =
+          let h = keeps-says i e in
+          let f = h .fields in
+          row-said before (energy i) (record { above = over h; region = f .region; spare = f .spare; race = f .race; rasoe = f .rasoe })
+        where
+          step : (k : ℕ) → i ≡ k + 1 → risesBy energyBelow energy i ≡ true → keyOf (energy k) < keyOf (energy i)
+          step k q o =
+              let up : suc k ≡ i = omega arith in
+              let p = rises-step energyBelow energy k (rw (← up) at o) in
+              rw (← up) (below-pair (energy k .account) (energy k .region) (energy (suc k) .account) (energy (suc k) .region) p (keeps-says k (s .each k (omega arith)) .fields .region))
 
-  -- a turn has room: the sums of at most 1,024 rows are small
-  pub rows-room : (i n : ℕ) {before head : ℕ} {t : Totals} {r : EnergyRow} → n ≤ 1024 → i < n → Rows i before t → head ≡ r .region + 256 * r .spare → RowHolds before r → (head < 5) × Room t head
-  rows-room i n {before} {head} few l s d h =
-      let b : head < 5 = omega (arith, h .spare, h .region) in
-      let q = s .held .rows in
-      let sums = s .held .sums in (
-        b,
+          over : RowKeeps i → before < keyOf (energy i)
+          over h =
+              ⊎-elim
+              (λ (e : i ≡ 0). rw (s .first e) (h .fields .above))
+              (λ (l : 0 < i). let no : i ≡ 0 → ⊥ = λ (e : i ≡ 0). omega arith in
+              rw (s .last no) (step (i - 1) (omega arith) (h .order)))
+              (eq-zero-or-pos i)
+
+  module _ (i : ℕ) {before : ℕ} {t : Totals} {r : EnergyRow} {b : Bool} (s : Rows i before t) (e : r ≡ energy i) (q : b ≡ rowHolds before r) where
+    -- the row's test failed: the rows before it are all that are taken
+    pub rows-stop : (n : ℕ) → i < n → not b ≡ true → SummedIs energy n i t
+    rows-stop n l f =
         record {
-          ace = omega (arith, split-bound _ _ 5 8589934590 i (λ j k. omega (arith, q j k .ace)) i (sums .ace) (omega arith) head b);
-          asoe = omega (arith, split-bound _ _ 5 8589934590 i (λ j k. omega (arith, q j k .asoe)) i (sums .asoe) (omega arith) head b);
-          residual = omega (arith, split-bound _ _ 5 8589934590 i (λ j k. let a = q j k in omega arith) i (sums .residual) (omega arith) head b);
+          high = omega arith;
+          each = s .each;
+          ended = λ _. sym (row-exact i before s) ∙ rw e at (sym q ∙ not-true b f);
+          sums = s .sums;
+        }
+
+    module _ (f : not b ≡ false) {head : ℕ} (d : head ≡ r .region + 256 * r .spare) where
+      held : RowHolds before r
+      held = row-says before r (sym q ∙ not-false b f)
+
+      -- it passed: x are the sums with it
+      pub rows-more : {key : ℕ} {x : Totals} → r .ace < 4294967296 → r .asoe < 4294967296 → Added t head r x → key ≡ r .account * 4294967296 + head → Rows (i + 1) key x
+      rows-more {key} {x} a c p k =
+          let g : head ≡ r .region = omega (arith, held .spare) in
+          let up = held .above in
+          let low = s .low in
+          let back : i + 1 - 1 ≡ i = omega arith in
+          record {
+            low = omega arith;
+            first = λ (z : i + 1 ≡ 0). omega arith;
+            last = λ _. rw (back, ← e) (omega arith);
+            each = below-more _ i (s .each) (sym (row-exact i before s) ∙ rw e at (sym q ∙ not-false b f));
+            narrow = below-more _ i (s .narrow) (rw e at narrowed);
+            sums = sums-more i (s .sums) e g (omega (arith, held .region)) p;
+          }
+        where
+          narrowed : Narrow r
+          narrowed = record { ace = a; asoe = c }
+
+      -- and there is room for it: the sums of at most 1,024 rows are small
+      pub rows-room : (n : ℕ) → n ≤ 1024 → i < n → (head < 5) × Room t head
+      rows-room n few l =
+          let in-reach : head < 5 = omega (arith, held .spare, held .region) in
+          let sums = s .sums in (
+            in-reach,
+            record {
+              ace = omega (arith, split-bound _ _ 5 8589934590 i (λ j k. omega (arith, s .narrow j k .ace)) i (sums .ace) (omega arith) head in-reach);
+              asoe = omega (arith, split-bound _ _ 5 8589934590 i (λ j k. omega (arith, s .narrow j k .asoe)) i (sums .asoe) (omega arith) head in-reach);
+              residual = omega (arith, split-bound _ _ 5 8589934590 i (λ j k. let z = keeps-says j (s .each j k) .fields in let y = s .narrow j k in omega arith) i (sums .residual) (omega arith) head in-reach);
+            },
+          )
+
+  -- the loop's end: there is no row left
+  pub rows-all : (i n : ℕ) {before : ℕ} {t : Totals} → Rows i before t → i ≤ n → n ≤ i → SummedIs energy n n t
+  rows-all i n {before} {t} s l m =
+      let e : i ≡ n = omega arith in
+      let k : Rows n before t = rw e at s in
+      record { high = omega arith; each = k .each; ended = λ h. absurd (none h); sums = k .sums }
+    where
+      none : n < n → ⊥
+      none h = omega arith
+
+  -- no second number of rows and no other sums fit
+  pub summed-once : (n i j : ℕ) (t x : Totals) → SummedIs energy n i t → SummedIs energy n j x → (i ≡ j) × (t ≡ x)
+  summed-once n i j t x h g =
+      let same = place in
+      let other : SummedIs energy n i x = rw (← same) at g in (
+        same,
+        λ k. record {
+          ace = split-once _ _ i (h .sums .ace) (other .sums .ace) k;
+          asoe = split-once _ _ i (h .sums .asoe) (other .sums .asoe) k;
+          residual = split-once _ _ i (h .sums .residual) (other .sums .residual) k;
         },
       )
-
-  -- the loop's end
-  pub rows-all : (i n : ℕ) {before : ℕ} {t : Totals} → Rows i before t → i ≤ n → n ≤ i → SummedIs energy n t
-  rows-all i n s l m = let e : i ≡ n = omega arith in rw e at (s .held)
+    where
+      place : i ≡ j
+      place =
+          ⊎-elim
+          (λ (a : i < j). absurd (no-yes (h .ended (omega (arith, g .high))) (g .each i a)))
+          (λ (a : j ≤ i). ⊎-elim
+          (λ (b : j < i). absurd (no-yes (g .ended (omega (arith, h .high))) (h .each j b)))
+          (λ (b : i ≤ j). omega arith)
+          (lt-or-ge j i))
+          (lt-or-ge i j)

@@ -3,18 +3,20 @@ use Prim.Native.Nat.{ℕ, zero, suc, _+_, _-_, _*_, _≤_, _<_}
 use mathlib.Core.List.{List, [], _∷_}
 use mathlib.Core.Path.{_≡_, refl, sym, ap, _∙_}
 use mathlib.Core.Bool.{Bool, true, false, cond, not, _&&_, _||_}
-use borrow.Author.Tests.{leb-true, eqb-true, ltb-true, lt-ltb, eq-eqb, not-false}
+use mathlib.Core.Logic.{⊎-elim}
+use borrow.Author.Tests.{leb-true, eqb-true, ltb-true, lt-ltb, le-ltb, le-leb, eq-eqb, not-true, not-false}
 use borrow.Author.Count.{below-more}
 use lib.Dec.{eqb, leb, ltb}
 use native.Mathlib.Omega.{arith}
 use native.Mathlib.Nat.{le-refl}
 use Rattle.ground.specs.Bytes.{u32At}
 use Rattle.ground.specs.Sizes.{sizeOf, plusOf, minusOf}
-use Rattle.ground.proofs.Every.{every}
+use Rattle.ground.proofs.Every.{every, all}
 use Rattle.sections.specs.Order.{risesBy, pairBelow}
 use Rattle.sections.specs.Walk.{Under}
 use Rattle.sections.specs.Total.{keyed}
-use Rattle.sections.proofs.Order.{rises-first, rises-later}
+use Rattle.sections.proofs.Order.{rises-first, rises-later, rises-step}
+use Rattle.sections.proofs.Search.{lt-or-ge}
 use Rattle.sections.proofs.Total.{total-zero, total-bound, keyed-miss, keyed-le}
 use Rattle.sections.proofs.Walk.{sum-more}
 use Rattle.records.specs.Rows.{unitRow}
@@ -25,14 +27,8 @@ use Rattle.factors.specs.Naming.{keyOf}
 use Rattle.factors.specs.Factors.{sumsOk, sumOver}
 use Rattle.factors.specs.Runs.{Added}
 use Rattle.factors.specs.declared.sums.Sums.{Sums}
-use Rattle.quick.specs.Units.{follows, smallSums, Followed, Taken, Settled}
-
--- a pass that answers false says nothing
-pub unsaid : {A : Type 0} → _≡_ {A = Bool} false true → A
-unsaid e = absurd (no e)
-  where
-    no : _≡_ {A = Bool} false true → ⊥
-    no e = let z : _≡_ {A = ℕ} 0 1 = cc in omega arith
+use Rattle.quick.specs.Units.{follows, smallSums, settled, Followed, Along, Taken}
+use Rattle.quick.proofs.Said.{no-yes}
 
 -- ---- order
 
@@ -46,6 +42,9 @@ pair-first a x b y l = rw (lt-ltb a b l)
 pair-second : (a x b y : ℕ) → a ≡ b → x < y → pairBelow a x b y ≡ true
 pair-second a x b y e l = or-right (ltb a b) (rw (eq-eqb a b e, lt-ltb x y l))
 
+pair-later : (a x b y : ℕ) → a ≡ b → pairBelow a x b y ≡ true → x < y
+pair-later a x b y e h = ltb-true x y (rw (le-ltb a b (omega arith), eq-eqb a b e) at h)
+
 -- a row above the one before it, if there is one
 rises-at : (row : ℕ → UnitRow) (u : ℕ) → ((i : ℕ) → suc i ≡ u → unitBelow (row i) (row u) ≡ true) → risesBy unitBelow row u ≡ true
 rises-at row zero h = sym (rises-first unitBelow row 0 refl)
@@ -53,18 +52,23 @@ rises-at row (suc i) h =
     let back : i ≡ suc i - 1 = omega arith in
     sym (rises-later unitBelow row (suc i) (λ (q : suc i ≡ 0). omega arith) (ap row back) refl (sym (h i refl)))
 
+-- and back
+rises-back : (row : ℕ → UnitRow) (u : ℕ) → risesBy unitBelow row u ≡ true → (i : ℕ) → suc i ≡ u → unitBelow (row i) (row u) ≡ true
+rises-back row u h i e = rw (← e) (rises-step unitBelow row i (rw (← e) at h))
+
 -- ---- the run
 
 module _ (row : ℕ → UnitRow) (m k start : ℕ) where
-  -- the rows taken so far; a row of k whose unit is above `last` is above the row before it
+  -- the rows taken so far; a row of k with a unit is above the row before it exactly where its unit is above `last`
   pub record Going (t : Sums) (last : ℕ) : Type 0 where
-    pub taken : Taken row m k start t
+    pub along : Along row m k start t
     pub above : (i x : ℕ) → suc i ≡ t .next → last < x → pairBelow (row i .constraint) (row i .unit) k x ≡ true
+    pub over : (x : ℕ) → 1 ≤ x → ((i : ℕ) → suc i ≡ t .next → pairBelow (row i .constraint) (row i .unit) k x ≡ true) → last < x
 
   pub going-start : start ≤ m → Under (keyOf row) start k → Going (record { next = start; plus = 0; minus = 0; dcf = 0 }) 0
   going-start l under =
       record {
-        taken = record {
+        along = record {
           low = le-refl start;
           high = l;
           each = λ i a b. absurd (none i a b);
@@ -73,6 +77,7 @@ module _ (row : ℕ → UnitRow) (m k start : ℕ) where
           dcf = nothing (λ r. r .dcf);
         };
         above = λ i x e h. pair-first (row i .constraint) (row i .unit) k x (under i (omega arith));
+        over = λ x l h. l;
       }
     where
       none : (i : ℕ) → start ≤ i → i < start → ⊥
@@ -88,7 +93,7 @@ module _ (row : ℕ → UnitRow) (m k start : ℕ) where
       let key : row u .constraint ≡ k = rw e at (eqb-true (r .constraint) k (h .0)) in
       let up : last < row u .unit = rw e at (ltb-true last (r .unit) (h .1 .0)) in
       let acc : 1 ≤ row u .account = rw e at (leb-true 1 (r .account) (h .1 .1 .0)) in
-      let s = g .taken in
+      let s = g .along in
       let here : Followed row k u =
       record {
         same = key;
@@ -98,7 +103,7 @@ module _ (row : ℕ → UnitRow) (m k start : ℕ) where
       }
       in
       record {
-        taken = record {
+        along = record {
           low = omega (arith, a .next, s .low);
           high = omega (arith, a .next);
           each = λ i c d. below-more (λ (i : ℕ). start ≤ i → Followed row k i) u (λ i y z. s .each i z y) (λ _. here) i (rw (a .next) at d) c;
@@ -107,10 +112,51 @@ module _ (row : ℕ → UnitRow) (m k start : ℕ) where
           dcf = rw (a .dcf, a .next) (sum-more _ m k _ u (s .dcf) key (ap (λ (r : UnitRow). r .dcf) e));
         };
         above = λ i y z w. last-row u i y key (ap (λ (r : UnitRow). r .unit) e) (omega (arith, a .next)) w;
+        over = λ y l w. rw e (pair-later (row u .constraint) (row u .unit) k y key (w u (omega (arith, a .next))));
       }
     where
       last-row : (u i y : ℕ) {z : ℕ} → row u .constraint ≡ k → z ≡ row u .unit → i ≡ u → z < y → pairBelow (row i .constraint) (row i .unit) k y ≡ true
       last-row u i y key e q w = rw q (pair-second (row u .constraint) (row u .unit) k y key (rw e at w))
+
+  -- the next row does not follow, so it does not belong to the run
+  pub going-stop : {t : Sums} {r : UnitRow} {last : ℕ} {b : Bool} → Going t last → r ≡ row (t .next) → b ≡ follows r k last → not b ≡ true → Taken row m k start t
+  going-stop {t} {r} {last} {b} g e q n = record { along = g .along; ended = λ l f. no-yes (not-true b n) (q ∙ rw e (there f)) }
+    where
+      u : ℕ
+      u = t .next
+
+      there : Followed row k u → follows (row u) k last ≡ true
+      there f =
+          let up = g .over (row u .unit) (f .unit) (λ i z. rw (f .same) at (rises-back row u (f .order) i z)) in
+          all (eqb (row u .constraint) k ∷ ltb last (row u .unit) ∷ leb 1 (row u .account) ∷ [])
+          (eq-eqb (row u .constraint) k (f .same), (lt-ltb last (row u .unit) up, (le-leb 1 (row u .account) (f .account), tt)))
+
+  -- there is no next row
+  pub going-done : {t : Sums} {last : ℕ} → Going t last → m ≤ t .next → Taken row m k start t
+  going-done {t} g l = record { along = g .along; ended = λ h f. none h }
+    where
+      none : t .next < m → ⊥
+      none h = omega arith
+
+  -- no second end and no other sums fit a run
+  pub taken-once : (t x : Sums) → Taken row m k start t → Taken row m k start x → t ≡ x
+  taken-once t x h g = λ j. record { next = next j; plus = sums (λ r. r .plus) (h .along .plus) (g .along .plus) j; minus = sums (λ r. r .minus) (h .along .minus) (g .along .minus) j; dcf = sums (λ r. r .dcf) (h .along .dcf) (g .along .dcf) j }
+    where
+      not-before : (t x : Sums) → Taken row m k start t → Taken row m k start x → t .next < x .next → ⊥
+      not-before t x h g l = h .ended (omega (arith, g .along .high)) (g .along .each (t .next) (h .along .low) l)
+
+      next : t .next ≡ x .next
+      next =
+          ⊎-elim
+          (λ (a : t .next < x .next). absurd (not-before t x h g a))
+          (λ (a : x .next ≤ t .next). ⊎-elim
+          (λ (b : x .next < t .next). absurd (not-before x t g h b))
+          (λ (b : t .next ≤ x .next). omega arith)
+          (lt-or-ge (x .next) (t .next)))
+          (lt-or-ge (t .next) (x .next))
+
+      sums : (f : UnitRow → ℕ) {a b : ℕ} → a ≡ sumOver row (t .next) k f → b ≡ sumOver row (x .next) k f → a ≡ b
+      sums f p q = p ∙ ap (λ (i : ℕ). sumOver row i k f) next ∙ sym q
 
 -- ---- sums that fit
 
@@ -156,8 +202,8 @@ module _ (s : List ℕ) where
     pub minus : t .minus ≤ 3000000000000
     pub dcf : t .dcf ≤ 3000000000000
 
-  pub taken-fits : (m k start : ℕ) {t : Sums} → m ≤ 600 → Taken (unitRow s) m k start t → Fits t
-  taken-fits m k start {t} few h =
+  pub along-fits : (m k start : ℕ) {t : Sums} → m ≤ 600 → Along (unitRow s) m k start t → Fits t
+  along-fits m k start {t} few h =
       let l : t .next ≤ 600 = omega (arith, h .high) in
       record {
         plus = rw (h .plus) (bound (λ r. r .plus) (t .next) k l row-plus);
@@ -185,14 +231,39 @@ small-sums t {b} e n =
 pub small-room : {t : Sums} → Small t → (t .plus ≤ 600000000) × ((t .minus ≤ 600000000) × (t .dcf ≤ 600000000))
 small-room h = (omega (arith, h .plus), (omega (arith, h .minus), omega (arith, h .dcf)))
 
-pub settled : (r : Constraint) (t : Sums) (start : ℕ) {b : Bool} → Small t → b ≡ sumsOk r (t .plus) (t .minus) (t .dcf) → (leb 1 (r .id) && (not (eqb (r .mode) 0) || eqb (t .next) start) && b) ≡ true → Settled r t start
-settled r t start {b} s e h =
-    let g = every (leb 1 (r .id) ∷ (not (eqb (r .mode) 0) || eqb (t .next) start) ∷ b ∷ []) h in
+-- the answer where they are not small, and where they are; b is what the test of the sums answered
+pub settles-no : (r : Constraint) (t : Sums) (start : ℕ) {b : Bool} → b ≡ smallSums t → not b ≡ true → false ≡ settled r t start
+settles-no r t start {b} e n =
+    ap (λ (z : Bool). z && ((not (eqb (r .mode) 0) || eqb (t .next) start) && sumsOk r (t .plus) (t .minus) (t .dcf))) (sym (sym e ∙ not-true b n))
+
+pub settles-by : (r : Constraint) (t : Sums) (start : ℕ) {a b : Bool} → a ≡ smallSums t → not a ≡ false → b ≡ sumsOk r (t .plus) (t .minus) (t .dcf) → ((not (eqb (r .mode) 0) || eqb (t .next) start) && b) ≡ settled r t start
+settles-by r t start {a} {b} e n q =
+    ap (λ (z : Bool). (not (eqb (r .mode) 0) || eqb (t .next) start) && z) q
+    ∙ ap (λ (z : Bool). z && ((not (eqb (r .mode) 0) || eqb (t .next) start) && sumsOk r (t .plus) (t .minus) (t .dcf))) (sym (sym e ∙ not-false a n))
+
+-- what it says that a constraint keeps its rule, and back
+pub record Settled (r : Constraint) (t : Sums) (start : ℕ) : Type 0 where
+  pub live : r .mode ≡ 0 → t .next ≡ start
+  pub small : Small t
+  pub sums : sumsOk r (t .plus) (t .minus) (t .dcf) ≡ true
+
+pub settled-says : (r : Constraint) (t : Sums) (start : ℕ) → settled r t start ≡ true → Settled r t start
+settled-says r t start h =
+    let g = every (smallSums t ∷ ((not (eqb (r .mode) 0) || eqb (t .next) start) && sumsOk r (t .plus) (t .minus) (t .dcf)) ∷ []) h in
+    let k = every ((not (eqb (r .mode) 0) || eqb (t .next) start) ∷ sumsOk r (t .plus) (t .minus) (t .dcf) ∷ []) (g .1 .0) in
     record {
-      id = leb-true 1 (r .id) (g .0);
-      live = λ (q : r .mode ≡ 0). eqb-true (t .next) start (rw (eq-eqb (r .mode) 0 q) at (g .1 .0));
-      plus = s .plus;
-      minus = s .minus;
-      dcf = s .dcf;
-      sums = sym e ∙ g .1 .1 .0;
+      live = λ (q : r .mode ≡ 0). eqb-true (t .next) start (rw (eq-eqb (r .mode) 0 q) at (k .0));
+      small = small-sums t refl (ap not (g .0));
+      sums = k .1 .0;
     }
+
+pub settled-said : (r : Constraint) (t : Sums) (start : ℕ) → Settled r t start → settled r t start ≡ true
+settled-said r t start s =
+    all (smallSums t ∷ ((not (eqb (r .mode) 0) || eqb (t .next) start) && sumsOk r (t .plus) (t .minus) (t .dcf)) ∷ []) (
+      all (leb (t .plus) 1000000 ∷ leb (t .minus) 1000000 ∷ leb (t .dcf) 1000000 ∷ []) (le-leb (t .plus) 1000000 (s .small .plus), (le-leb (t .minus) 1000000 (s .small .minus), (le-leb (t .dcf) 1000000 (s .small .dcf), tt))),
+      (all ((not (eqb (r .mode) 0) || eqb (t .next) start) ∷ sumsOk r (t .plus) (t .minus) (t .dcf) ∷ []) (live (eqb (r .mode) 0) refl, (s .sums, tt)), tt),
+    )
+  where
+    live : (z : Bool) → eqb (r .mode) 0 ≡ z → (not z || eqb (t .next) start) ≡ true
+    live true e = eq-eqb (t .next) start (s .live (eqb-true (r .mode) 0 e))
+    live false e = refl

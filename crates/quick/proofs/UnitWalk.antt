@@ -16,14 +16,16 @@ use Rattle.sections.specs.Total.{keyed}
 use Rattle.sections.proofs.Search.{some-here, lt-or-ge}
 use Rattle.sections.proofs.Total.{total-rest, keyed-hit, keyed-miss, total-has}
 use Rattle.records.specs.Rules.{unitTests, unitOk, unitBelow}
+use Rattle.records.specs.Facts.{ConstraintRule}
 use Rattle.records.specs.declared.rows.Constraint.{Constraint}
 use Rattle.records.specs.declared.rows.UnitRow.{UnitRow}
 use Rattle.factors.specs.Naming.{idOf, keyOf, namedAt, Owner}
 use Rattle.factors.specs.Factors.{sumsOk, sumOver, factorsAt}
 use Rattle.factors.specs.declared.sums.Sums.{Sums}
 use Rattle.factors.proofs.Runs.{none-is}
-use Rattle.quick.specs.Holds.{UnitsHold}
-use Rattle.quick.specs.Units.{Taken, Settled}
+use Rattle.quick.specs.Units.{Taken}
+use Rattle.quick.proofs.Said.{UnitsHold}
+use Rattle.quick.proofs.UnitTurns.{Settled}
 
 module _ (con : ℕ → Constraint) (n : ℕ) (row : ℕ → UnitRow) (m : ℕ) where
   -- the first j constraints and the rows before place u keep all rules, where only those rows count
@@ -44,7 +46,7 @@ module _ (con : ℕ → Constraint) (n : ℕ) (row : ℕ → UnitRow) (m : ℕ) 
       let o = p .own i h in
       rw (e, ← o .same) (s .rise (o .place) j (o .within) l)
 
-  module _ (s : Rises (idOf con) n) (j u : ℕ) (l : j < n) (p : Passed j u) {t : Sums} (h : Taken row m (con j .id) u t) (g : Settled (con j) t u) where
+  module _ (s : Rises (idOf con) n) (j u : ℕ) (l : j < n) (c : ConstraintRule (con j)) (p : Passed j u) {t : Sums} (h : Taken row m (con j .id) u t) (g : Settled (con j) t u) where
     -- what holds of the rows before the run and of those of the run
     both : (P : ℕ → Type 0) → ((i : ℕ) → i < u → P i) → ((i : ℕ) → u ≤ i → i < t .next → P i) → (i : ℕ) → i < t .next → P i
     both P a b i d = ⊎-elim (λ (x : i < u). a i x) (λ (x : u ≤ i). b i x d) (lt-or-ge i u)
@@ -57,18 +59,18 @@ module _ (con : ℕ → Constraint) (n : ℕ) (row : ℕ → UnitRow) (m : ℕ) 
 
     fields-of : (i : ℕ) → u ≤ i → i < t .next → unitOk (row i) ≡ true
     fields-of i a d =
-        let f = h .each i a d in
+        let f = h .along .each i a d in
         all (unitTests (row i)) (
-          le-leb 1 (row i .constraint) (rw (f .same) (g .id)),
+          le-leb 1 (row i .constraint) (rw (f .same) (c .id)),
           (
             le-leb 1 (row i .unit) (f .unit),
             (
               le-leb 1 (row i .account) (f .account),
               (
-                le-leb (row i .plus) 1000000 (part (λ r. r .plus) i d (f .same) (h .plus) (g .plus)),
+                le-leb (row i .plus) 1000000 (part (λ r. r .plus) i d (f .same) (h .along .plus) (g .small .plus)),
                 (
-                  le-leb (row i .minus) 1000000 (part (λ r. r .minus) i d (f .same) (h .minus) (g .minus)),
-                  (le-leb (row i .dcf) 1000000 (part (λ r. r .dcf) i d (f .same) (h .dcf) (g .dcf)), tt),
+                  le-leb (row i .minus) 1000000 (part (λ r. r .minus) i d (f .same) (h .along .minus) (g .small .minus)),
+                  (le-leb (row i .dcf) 1000000 (part (λ r. r .dcf) i d (f .same) (h .along .dcf) (g .small .dcf)), tt),
                 ),
               ),
             ),
@@ -80,7 +82,7 @@ module _ (con : ℕ → Constraint) (n : ℕ) (row : ℕ → UnitRow) (m : ℕ) 
         record {
           place = j;
           within = omega arith;
-          same = sym (h .each i a d .same);
+          same = sym (h .along .each i a d .same);
           live = λ (q : con j .mode ≡ 0). omega (arith, g .live q);
         }
 
@@ -90,23 +92,20 @@ module _ (con : ℕ → Constraint) (n : ℕ) (row : ℕ → UnitRow) (m : ℕ) 
     -- the run adds nothing to the sums of earlier constraints
     kept : (f : UnitRow → ℕ) (i : ℕ) → i < j → sumOver row u (con i .id) f ≡ sumOver row (t .next) (con i .id) f
     kept f i a =
-        total-rest _ u (t .next) (h .low) (λ v b d. keyed-miss (keyOf row) (con i .id) (λ w. f (row w)) v
-        (λ (q : keyOf row v ≡ con i .id). omega (arith, h .each v b d .same, s .rise i j a l)))
+        total-rest _ u (t .next) (h .along .low) (λ v b d. keyed-miss (keyOf row) (con i .id) (λ w. f (row w)) v
+        (λ (q : keyOf row v ≡ con i .id). omega (arith, h .along .each v b d .same, s .rise i j a l)))
 
-    passed-next : Passed (j + 1) (t .next)
-    passed-next =
+    pub passed-more : Passed (j + 1) (t .next)
+    passed-more =
         record {
-          high = h .high;
+          high = h .along .high;
           own = both (Owner con (j + 1) row) wider own-of;
           fields = both (λ (i : ℕ). unitOk (row i) ≡ true) (p .fields) fields-of;
-          order = both (λ (i : ℕ). risesBy unitBelow row i ≡ true) (p .order) (λ i a d. h .each i a d .order);
+          order = both (λ (i : ℕ). risesBy unitBelow row i ≡ true) (p .order) (λ i a d. h .along .each i a d .order);
           sums = below-more _ j
               (λ i a. rw (kept (λ r. r .plus) i a, kept (λ r. r .minus) i a, kept (λ r. r .dcf) i a) at (p .sums i a))
-              (rw (h .plus, h .minus, h .dcf) at (g .sums));
+              (rw (h .along .plus, h .along .minus, h .along .dcf) at (g .sums));
         }
-
-  pub passed-more : (j u : ℕ) {r : Constraint} {t : Sums} → Rises (idOf con) n → j < n → r ≡ con j → Passed j u → Taken row m (r .id) u t → Settled r t u → Passed (j + 1) (t .next)
-  passed-more j u s l e p h g = passed-next s j u l p (rw e at h) (rw e at g)
 
   -- all constraints passed, and all rows taken
   pub passed-all : (j u : ℕ) → Passed j u → j ≡ n → u ≡ m → UnitsHold con n row m

@@ -1,8 +1,8 @@
--- What a pass over a long section shows where it says that all is well.
-use Prim.Native.Nat.{ℕ, _<_}
-use mathlib.Core.Path.{_≡_}
-use mathlib.Core.Bool.{true}
+-- Whether the checks of a long section pass, which is what a pass over it answers. 01, Refusals, has the checks.
+use Prim.Native.Nat.{ℕ}
+use mathlib.Core.Bool.{Bool, _&&_}
 use Rattle.sections.specs.Order.{risesBy}
+use Rattle.sections.specs.Search.{all}
 use Rattle.records.specs.Rules.{unitOk, energyOk, unitBelow, energyBelow}
 use Rattle.records.specs.declared.rows.Entry.{Entry}
 use Rattle.records.specs.declared.rows.Constraint.{Constraint}
@@ -12,15 +12,17 @@ use Rattle.factors.specs.Naming.{namedAt}
 use Rattle.factors.specs.Factors.{factorsAt}
 use Rattle.totals.specs.Sums.{entryAt}
 
--- checks 5, 6 and 9 pass of the n energy rows
-pub record EnergiesHold (energy : ℕ → EnergyRow) (n : ℕ) (entry : ℕ → Entry) : Type 0 where
-  pub fields : (i : ℕ) → i < n → energyOk (energy i) ≡ true
-  pub order : (i : ℕ) → i < n → risesBy energyBelow energy i ≡ true
-  pub sums : (g : ℕ) → g < 5 → entryAt energy n entry g ≡ true
+-- none of the n energy rows is refused by 5, "a field outside the rules above", or 6, "(account, region) pairs .. not strictly rising",
+-- and none of the five region entries by 9, "a region entry differs from its rows' sums"
+unfoldable pub energiesHold : (ℕ → EnergyRow) → ℕ → (ℕ → Entry) → Bool
+energiesHold energy n entry =
+    all (λ i. energyOk (energy i)) n && all (risesBy energyBelow energy) n && all (entryAt energy n entry) 5
 
--- checks 5, 6, 7 and 8 pass of the m unit rows and the n constraints
-pub record UnitsHold (con : ℕ → Constraint) (n : ℕ) (unit : ℕ → UnitRow) (m : ℕ) : Type 0 where
-  pub fields : (u : ℕ) → u < m → unitOk (unit u) ≡ true
-  pub order : (u : ℕ) → u < m → risesBy unitBelow unit u ≡ true
-  pub named : (u : ℕ) → u < m → namedAt con n unit u ≡ true
-  pub factored : (j : ℕ) → j < n → factorsAt unit m con j ≡ true
+-- none of the m unit rows is refused by 5, "a field outside the rules above", 6, "(constraint, unit) pairs .. not strictly rising", or
+-- 7, "a unit row names no constraint here, or one of mode 0", and none of the n constraints by 8, "factor sums fail"
+unfoldable pub unitsHold : (ℕ → Constraint) → ℕ → (ℕ → UnitRow) → ℕ → Bool
+unitsHold con n unit m =
+    all (λ u. unitOk (unit u)) m
+    && all (risesBy unitBelow unit) m
+    && all (namedAt con n unit) m
+    && all (factorsAt unit m con) n

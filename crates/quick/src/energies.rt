@@ -1,12 +1,14 @@
 // The energy rows in one pass: their fields, their order and the sums by region, which are then held against the region entries.
-// An energy is no larger than its region's sum, so that the limit of an entry is the limit of its rows too, and no row is held against it.
+// An energy is no larger than its region's sum, so that the limit of an entry, which has been seen to hold, is the limit of its rows too, and
+// no row is held against it.
 ghost use mathlib.Core.Path.{_≡_};
-ghost use mathlib.Core.Bool.{true};
-ghost use Prim.Native.Nat.{_+_, _*_, _≤_, _<_};
+ghost use Prim.Native.Nat.{ℕ, _+_, _*_, _≤_, _<_};
 ghost use lib.ListN.{length, getD, set};
 ghost use Rattle.records.specs.Rows.{entryRow, energyRow};
-ghost use Rattle.quick.specs.Holds.{EnergiesHold};
-ghost use Rattle.quick.specs.Energies.{RowHolds, Room, Added, SummedIs, EntryHolds};
+ghost use Rattle.records.specs.Facts.{EntryRule};
+ghost use Rattle.totals.specs.Sums.{entryIs};
+ghost use Rattle.quick.specs.Holds.{energiesHold};
+ghost use Rattle.quick.specs.Energies.{rowHolds, Room, Added, SummedIs};
 use ground::read;
 use records::rows;
 use records::rows::EnergyRow;
@@ -37,7 +39,7 @@ fn key_of(account: u32, head: u32) -> u64
 // Whether a row has a region, reserved bytes of 0 and residuals within its energies, and is above the row before it.
 fn row_holds(r: EnergyRow, head: u32, before: u64) -> bool
     requires { ⌜ head ≡ r .region + 256 * r .spare ⌝ }
-    ensures { λ b. ⌜ (b ≡ true → RowHolds before r) ⌝ }
+    ensures { λ b. ⌜ b ≡ rowHolds before r ⌝ }
 {
     (before < key_of(r.account, head)) & (head <= 4) & (r.race <= r.ace) & (r.rasoe <= r.asoe)
 }
@@ -63,7 +65,7 @@ fn add_row(ace: &mut [u64; 5], asoe: &mut [u64; 5], residual: &mut [u64; 5], r: 
 // The n energy rows in order, up to the first that does not hold.
 fn sum_rows(energy: &[u8], n: usize) -> Summed
     requires { ⌜ (n * 24 ≤ length (now energy)) × (n ≤ 1024) ⌝ }
-    ensures { λ s. ⌜ SummedIs (energyRow (now (energy .entry))) (s .rows) (s .totals) ⌝ }
+    ensures { λ s. ⌜ SummedIs (energyRow (now (energy .entry))) n (s .rows) (s .totals) ⌝ }
 {
     let mut ace = [0u64; 5];
     let mut asoe = [0u64; 5];
@@ -97,19 +99,19 @@ fn sum_rows(energy: &[u8], n: usize) -> Summed
     }
 }
 
-// Whether an entry has its region's sums, and energies within the limit.
+// Whether an entry has its region's sums.
 fn entry_holds(regions: &[u8], t: Totals, g: usize) -> bool
     requires { ⌜ (60 ≤ length (now regions)) × (g < 5) ⌝ }
-    ensures { λ b. ⌜ (b ≡ true → EntryHolds (entryRow (now (regions .entry)) g) t g) ⌝ }
+    ensures { λ b. ⌜ b ≡ entryIs (entryRow (now (regions .entry)) g) (getD (t .ace) g 0) (getD (t .asoe) g 0) (getD (t .residual) g 0) ⌝ }
 {
-    let e = rows::entry_row(regions, g);
-    entries::entry_is(e, t, g) & (e.ace <= 20000000) & (e.asoe <= 20000000)
+    entries::entry_is(rows::entry_row(regions, g), t, g)
 }
 
-// Whether the region entries and the n energy rows keep checks 5, 6 and 9 of energy rows.
+// Whether the n energy rows keep checks 5 and 6, and the region entries 9; that the entries keep their own rules has been seen before.
 pub fn energies_hold(regions: &[u8], energy: &[u8], n: usize) -> bool
     requires { ⌜ (60 ≤ length (now regions)) × ((n * 24 ≤ length (now energy)) × (n ≤ 1024)) ⌝ }
-    ensures { λ b. ⌜ (b ≡ true → EnergiesHold (energyRow (now (energy .entry))) n (entryRow (now (regions .entry)))) ⌝ }
+    requires { ⌜ ((g : ℕ) → g < 5 → EntryRule (entryRow (now regions) g)) ⌝ }
+    ensures { λ b. ⌜ b ≡ energiesHold (energyRow (now (energy .entry))) n (entryRow (now (regions .entry))) ⌝ }
 {
     let s = sum_rows(energy, n);
     if s.rows != n {

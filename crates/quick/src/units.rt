@@ -1,16 +1,17 @@
 // The unit rows beside the constraints, in one pass: checks 5 and 6 of the unit rows, 7 and 8.
-// The rows of a constraint are a run. A row that breaks its run is never taken, since the ids of later constraints are larger, so that all is
-// well only where every row was taken. No row's factors are tested: sums of at most 1,000,000 have no larger part.
+// The rows of a constraint are a run. A row that breaks its run is never taken, since the ids of later constraints are larger, and in a good
+// book no row does, so that all is well exactly where every row was taken. No row's factors are tested: sums of at most 1,000,000 have no
+// larger part, and a constraint that keeps its rule has no larger sums.
 ghost use mathlib.Core.Path.{_≡_};
-ghost use mathlib.Core.Bool.{true};
-ghost use Prim.Native.Nat.{_+_, _*_, _≤_};
+ghost use Prim.Native.Nat.{ℕ, _+_, _*_, _≤_, _<_};
 ghost use lib.ListN.{length};
 ghost use Rattle.sections.specs.Order.{Rises};
 ghost use Rattle.sections.specs.Walk.{Under};
 ghost use Rattle.records.specs.Rows.{constraintRow, unitRow};
+ghost use Rattle.records.specs.Facts.{ConstraintRule};
 ghost use Rattle.factors.specs.Naming.{idOf, keyOf};
-ghost use Rattle.quick.specs.Holds.{UnitsHold};
-ghost use Rattle.quick.specs.Units.{follows, smallSums, Taken, Settled};
+ghost use Rattle.quick.specs.Holds.{unitsHold};
+ghost use Rattle.quick.specs.Units.{follows, smallSums, settled, Taken};
 use factors::sums;
 use factors::sums::Sums;
 use records::rows;
@@ -58,19 +59,20 @@ fn small(t: Sums) -> bool
 
 // Whether a constraint keeps its rule with the sums of its run. One of mode 0 has no row.
 fn settles(r: Constraint, t: Sums, from: usize) -> bool
-    ensures { λ b. ⌜ (b ≡ true → Settled r t from) ⌝ }
+    ensures { λ b. ⌜ b ≡ settled r t from ⌝ }
 {
     if !small(t) {
         return false;
     }
-    (1 <= r.id) & ((r.mode != 0) | (t.next == from)) & sums::sums_ok(r, t)
+    ((r.mode != 0) | (t.next == from)) & sums::sums_ok(r, t)
 }
 
-// Whether unit rows and constraints keep these checks. The answer false says nothing: the checks are then run one by one.
+// Whether unit rows and constraints keep these checks; that the constraints keep their own rules has been seen before.
 pub fn units_hold(cons: &[u8], n: usize, units: &[u8], m: usize) -> bool
     requires { ⌜ (n * 40 ≤ length (now cons)) × ((m * 20 ≤ length (now units)) × (m ≤ 600)) ⌝ }
     requires { ⌜ Rises (idOf (constraintRow (now cons))) n ⌝ }
-    ensures { λ b. ⌜ (b ≡ true → UnitsHold (constraintRow (now (cons .entry))) n (unitRow (now (units .entry))) m) ⌝ }
+    requires { ⌜ ((j : ℕ) → j < n → ConstraintRule (constraintRow (now cons) j)) ⌝ }
+    ensures { λ b. ⌜ b ≡ unitsHold (constraintRow (now (cons .entry))) n (unitRow (now (units .entry))) m ⌝ }
 {
     let mut u = 0;
     let mut j = 0;

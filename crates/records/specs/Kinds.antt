@@ -1,9 +1,19 @@
 -- What the numbers of services, regions and modes stand for.
 use Prim.Native.Nat.{ℕ, _/_, _%_, _^_}
 use mathlib.Core.Bool.{Bool, _&&_, cond}
+use mathlib.Core.List.{List, [], _∷_}
 use lib.Dec.{eqb, leb}
 use Rattle.records.specs.declared.kinds.Mode.{Mode}
 use Rattle.records.specs.declared.kinds.Mode.the-variants.{Contingency, Factored, Default, Unknown}
+
+-- 01, The book: "Each service and region has one fixed number that belongs to its kind."
+-- "Services 1 to 8 are very fast, fast, slow, delayed, each raise (odd) then lower (even); 9 and 10 are regulation raise and lower."
+abbrev pub serviceNumbers : List ℕ
+serviceNumbers = 1 ∷ 2 ∷ 3 ∷ 4 ∷ 5 ∷ 6 ∷ 7 ∷ 8 ∷ 9 ∷ 10 ∷ []
+
+-- "in the order NSW1, QLD1, SA1, TAS1, VIC1"; "region u8, 0 to 4"
+abbrev pub regionNumbers : List ℕ
+regionNumbers = 0 ∷ 1 ∷ 2 ∷ 3 ∷ 4 ∷ []
 
 -- 01, The book: "service u8, 1 to 10"
 abbrev pub isService : ℕ → Bool

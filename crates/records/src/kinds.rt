@@ -2,7 +2,7 @@
 // Raise or lower, the region's bit and the mode's data are asked here and nowhere else.
 ghost use mathlib.Core.Path.{_≡_};
 ghost use Prim.Native.Nat.{_^_, _<_};
-ghost use Rattle.records.specs.Kinds.{isService, raises, regulates, bitSet, modeWith};
+ghost use Rattle.records.specs.Kinds.{serviceNumbers, regionNumbers, isService, raises, regulates, bitSet, modeWith};
 
 // A market frequency service, by its number.
 pub struct Service {
@@ -34,6 +34,24 @@ impl Service {
         ensures { λ r. ⌜ r .number ≡ number ⌝ }
     {
         Service { number }
+    }
+
+    // Each service's number, in the order of the rules. Nothing calls it: it holds the constants to the definition.
+    pub fn numbers() -> [u8; 10]
+        ensures { λ r. ⌜ r ≡ serviceNumbers ⌝ }
+    {
+        [
+            Self::VERY_FAST_RAISE.number,
+            Self::VERY_FAST_LOWER.number,
+            Self::FAST_RAISE.number,
+            Self::FAST_LOWER.number,
+            Self::SLOW_RAISE.number,
+            Self::SLOW_LOWER.number,
+            Self::DELAYED_RAISE.number,
+            Self::DELAYED_LOWER.number,
+            Self::REGULATION_RAISE.number,
+            Self::REGULATION_LOWER.number,
+        ]
     }
 
     // One of the ten.
@@ -83,6 +101,19 @@ impl Region {
         Region { number }
     }
 
+    // Each region's number, in the order of the rules. Nothing calls it: it holds the constants to the definition.
+    pub fn numbers() -> [u8; Self::COUNT]
+        ensures { λ r. ⌜ r ≡ regionNumbers ⌝ }
+    {
+        [
+            Self::NSW1.number,
+            Self::QLD1.number,
+            Self::SA1.number,
+            Self::TAS1.number,
+            Self::VIC1.number,
+        ]
+    }
+
     // Whether the region's bit is set in a constraint's regions.
     pub fn is_in(self, mask: u8) -> bool
         requires { ⌜ self .number < 5 ⌝ }
@@ -113,17 +144,23 @@ pub enum Mode {
 }
 
 impl Mode {
+    pub const CONTINGENCY: u8 = 0;
+
+    pub const FACTORED: u8 = 1;
+
+    pub const DEFAULT: u8 = 2;
+
     pub fn of(number: u8, price: u32, response: u32, usage: u32) -> Mode
         ensures { λ r. ⌜ r ≡ modeWith number price response usage ⌝ }
     {
         match number {
-            0 => Mode::Contingency,
-            1 => Mode::Factored {
+            Self::CONTINGENCY => Mode::Contingency,
+            Self::FACTORED => Mode::Factored {
                 price,
                 response,
                 usage,
             },
-            2 => Mode::Default,
+            Self::DEFAULT => Mode::Default,
             _ => Mode::Unknown,
         }
     }

@@ -7,6 +7,7 @@ ghost use Rattle.sections.specs.Order.{risesBy};
 ghost use Rattle.records.specs.Rows.{constraintRow, unitRow, energyRow, contractRow};
 ghost use Rattle.records.specs.Rules.{entryOk, termsOk, noTerms, modeFits, constraintOk, unitOk, energyOk, sharesOk, contractOk, constraintBelow, unitBelow, energyBelow, contractBelow};
 use crate::kinds::Mode;
+use crate::kinds::Region;
 use crate::kinds::Service;
 use crate::rows;
 use crate::rows::Constraint;
@@ -60,9 +61,9 @@ fn mode_fits(r: Constraint) -> bool
 {
     let regulation = Service::of(r.service).is_regulation();
     let bare = no_terms(r);
-    ((r.mode == 0) & !regulation & bare & (r.drcf == 0))
-        | ((r.mode == 1) & regulation)
-        | ((r.mode == 2) & regulation & bare)
+    ((r.mode == Mode::CONTINGENCY) & !regulation & bare & (r.drcf == 0))
+        | ((r.mode == Mode::FACTORED) & regulation)
+        | ((r.mode == Mode::DEFAULT) & regulation & bare)
 }
 
 pub(crate) fn constraint_ok(r: Constraint) -> bool
@@ -98,7 +99,7 @@ pub(crate) fn energy_ok(r: EnergyRow) -> bool
     ensures { λ b. ⌜ b ≡ energyOk r ⌝ }
 {
     (1 <= r.account)
-        & (r.region <= 4)
+        & (r.region <= Region::VIC1.number)
         & (r.spare == 0)
         & (r.ace <= 20000000)
         & (r.asoe <= 20000000)

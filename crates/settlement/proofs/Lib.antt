@@ -10,5 +10,3 @@ pub mod Whole
 pub mod LineCount
 pub mod Given
 pub mod Ends
-pub mod Demand3
-pub mod Example

@@ -2,4 +2,3 @@ pub mod Settle
 pub mod Walks
 pub mod Counts
 pub mod Limits
-pub mod Agree

@@ -11,6 +11,7 @@ ghost use Rattle.book.specs.Facts.{Laid};
 ghost use Rattle.settlement.specs.Counts.{eachOf, UnitsCounted, Countable, MetAt, ConstraintsCounted, ContractCounted, ContractsCounted, BookCounted};
 use book::header::Header;
 use factors::naming;
+use records::kinds::Mode;
 use records::rows;
 use records::rows::Constraint;
 use records::rows::Contract;
@@ -19,7 +20,7 @@ use records::rows::Contract;
 fn lines_each(r: Constraint) -> usize
     ensures { λ x. ⌜ (x ≡ eachOf r) × (x ≤ 3) ⌝ }
 {
-    if r.mode == 1 { 3 } else { 1 }
+    if r.mode == Mode::FACTORED { 3 } else { 1 }
 }
 
 // Where a search among the constraints stands, and how many lines there are so far.

@@ -16,6 +16,7 @@ use amounts::pools;
 use amounts::pools::Pools;
 use lines::groups;
 use lines::make;
+use records::kinds::Mode;
 use records::rows;
 use records::rows::Constraint;
 use records::rows::UnitRow;
@@ -105,7 +106,7 @@ pub(crate) fn constraint_lines(
     ensures { λ x. ⌜ LinesDone (unitRow (now (units .entry))) m r (conLines (unitRow (now (units .entry))) m account r (divisorOf (entryOf own) r) total) (now (buf .entry)) place (now (buf .exit)) x ⌝ }
 {
     let share = divisors::over_regions(own, r);
-    if r.mode == 0 {
+    if r.mode == Mode::CONTINGENCY {
         let line = make::contingency_line(r, share, total);
         let end = statement::put_line(buf, place, line);
         return Cursor {

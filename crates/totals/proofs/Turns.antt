@@ -2,9 +2,11 @@
 use Prim.Native.Nat.{ℕ, zero, suc, _+_, _≤_, _<_}
 use mathlib.Core.Path.{_≡_, sym, subst, ap, _∙_}
 use mathlib.Core.Bool.{Bool, true, false, not, cond}
+use mathlib.Core.List.{List}
 use native.Mathlib.Omega.{arith}
 use lib.Dec.{eqb}
-use lib.ListN.{getD, set, replicate}
+use lib.ListN.{length, getD, set, replicate}
+use lib.Seq.{ext-getD}
 use Rattle.sections.proofs.Total.{total-same}
 use Rattle.sections.proofs.Groups.{split-none, split-more, split-bound}
 use Rattle.records.specs.Kinds.{raises, regulates, bitSet}
@@ -15,8 +17,19 @@ use Rattle.records.specs.declared.rows.EnergyRow.{EnergyRow}
 use Rattle.totals.specs.Sums.{entryIs, entryAt}
 use Rattle.totals.specs.Turns.{TotalsOf}
 use Rattle.totals.specs.Divisors.{basisOf, shareOf, divisorOf, constraintDivides}
-use Rattle.totals.specs.Totals.{entryOf}
+use Rattle.totals.specs.Totals.{Five, entryOf}
 use Rattle.totals.specs.declared.entries.Totals.{Totals}
+
+-- no second totals have the same entry in each of the five regions
+same-five : (xs ys : List ℕ) → length xs ≡ 5 → length ys ≡ 5 → ((g : ℕ) → g < 5 → getD xs g 0 ≡ getD ys g 0) → xs ≡ ys
+same-five xs ys m n e = ext-getD 0 xs ys (m ∙ sym n) (λ g l. e g (rw m at l))
+
+pub totals-once : (t x : Totals) → Five t → Five x → ((g : ℕ) → g < 5 → entryOf t g ≡ entryOf x g) → t ≡ x
+totals-once t x m n e =
+    let ace = same-five (t .ace) (x .ace) (m .ace) (n .ace) (λ g l. ap (λ (r : Entry). r .ace) (e g l)) in
+    let asoe = same-five (t .asoe) (x .asoe) (m .asoe) (n .asoe) (λ g l. ap (λ (r : Entry). r .asoe) (e g l)) in
+    let residual = same-five (t .residual) (x .residual) (m .residual) (n .residual) (λ g l. ap (λ (r : Entry). r .residual) (e g l)) in
+    λ j. record { ace = ace j; asoe = asoe j; residual = residual j }
 
 -- one row more in its region's sums
 pub record Put (t : Totals) (r : EnergyRow) (x : Totals) : Type 0 where

@@ -4,6 +4,7 @@ ghost use Prim.Native.Nat.{ℕ, _+_, _*_, _≤_, _<_};
 ghost use lib.ListN.{length};
 ghost use Rattle.sections.specs.First.{firstBad};
 ghost use Rattle.records.specs.Rows.{entryRow, constraintRow, contractRow};
+ghost use Rattle.records.specs.Rules.{factorOf};
 ghost use Rattle.records.specs.Facts.{EntryRule};
 ghost use Rattle.totals.specs.Totals.{entryOf};
 ghost use Rattle.totals.specs.Divisors.{basisOf, shareOf, divisorOf, constraintDivides, fundedIn, contractDivides};
@@ -12,6 +13,7 @@ use records::kinds::Region;
 use records::kinds::Service;
 use records::rows;
 use records::rows::Constraint;
+use records::rows::Entry;
 use sections::Checked;
 
 // By which energy a constraint's cost is shared.
@@ -58,16 +60,24 @@ pub fn over_regions(t: Totals, r: Constraint) -> u64
     sum
 }
 
+// A region's entry.
+fn entry_in(regions: &[u8], region: Region) -> Entry
+    requires { ⌜ (60 ≤ length (now regions)) × (region .number < 5) ⌝ }
+    ensures { λ e. ⌜ e ≡ entryRow (now (regions .entry)) (region .number) ⌝ }
+{
+    rows::entry_row(regions, region.number as usize)
+}
+
 // The five region entries, so that they are read once and not for each constraint.
 pub fn totals_of(regions: &[u8]) -> Totals
     requires { ⌜ 60 ≤ length (now regions) ⌝ }
     ensures { λ t. ⌜ ((g : ℕ) → g < 5 → entryOf t g ≡ entryRow (now (regions .entry)) g) ⌝ }
 {
-    let a = rows::entry_row(regions, 0);
-    let b = rows::entry_row(regions, 1);
-    let c = rows::entry_row(regions, 2);
-    let d = rows::entry_row(regions, 3);
-    let e = rows::entry_row(regions, 4);
+    let a = entry_in(regions, Region::NSW1);
+    let b = entry_in(regions, Region::QLD1);
+    let c = entry_in(regions, Region::SA1);
+    let d = entry_in(regions, Region::TAS1);
+    let e = entry_in(regions, Region::VIC1);
     Totals {
         ace: [
             a.ace as u64,
@@ -120,12 +130,12 @@ pub fn constraints(regions: &[u8], cons: &[u8], n: usize) -> Checked
 }
 
 // A region with a benefit factor has consumers and generators to recover from.
-fn funded(regions: &[u8], g: usize, factor: u32) -> bool
-    requires { ⌜ (g + 1) * 12 ≤ length (now regions) ⌝ }
-    ensures { λ b. ⌜ b ≡ fundedIn (entryRow (now (regions .entry))) factor g ⌝ }
+fn funded(regions: &[u8], f: [u32; 5], region: Region) -> bool
+    requires { ⌜ (60 ≤ length (now regions)) × (region .number < 5) ⌝ }
+    ensures { λ b. ⌜ b ≡ fundedIn (entryRow (now (regions .entry))) (factorOf f (region .number)) (region .number) ⌝ }
 {
-    let e = rows::entry_row(regions, g);
-    (factor == 0) | ((e.ace != 0) & (e.asoe != 0))
+    let e = entry_in(regions, region);
+    (f[region.number as usize] == 0) | ((e.ace != 0) & (e.asoe != 0))
 }
 
 fn contract_divides(regions: &[u8], contracts: &[u8], k: usize) -> bool
@@ -134,11 +144,11 @@ fn contract_divides(regions: &[u8], contracts: &[u8], k: usize) -> bool
 {
     let r = rows::contract_row(contracts, k);
     let f = r.factors;
-    funded(regions, 0, f[0])
-        & funded(regions, 1, f[1])
-        & funded(regions, 2, f[2])
-        & funded(regions, 3, f[3])
-        & funded(regions, 4, f[4])
+    funded(regions, f, Region::NSW1)
+        & funded(regions, f, Region::QLD1)
+        & funded(regions, f, Region::SA1)
+        & funded(regions, f, Region::TAS1)
+        & funded(regions, f, Region::VIC1)
 }
 
 // The first contract that benefits a region in which ACE or ASOE is 0.

@@ -7,6 +7,7 @@ ghost use Rattle.records.specs.Rows.{entryRow, energyRow};
 ghost use Rattle.records.specs.Facts.{EnergyRule};
 ghost use Rattle.totals.specs.Sums.{entryIs, entryAt};
 ghost use Rattle.totals.specs.Turns.{TotalsOf};
+use records::kinds::Region;
 use records::rows;
 use records::rows::Entry;
 use sections::Checked;
@@ -70,7 +71,7 @@ pub fn entries(regions: &[u8], energy: &[u8], n: usize) -> Checked
 {
     let t = by_region(energy, n);
     let mut g = 0;
-    while g < 5 {
+    while g < Region::COUNT {
         if !entry_is(rows::entry_row(regions, g), t, g) {
             return Checked::Bad(g);
         }

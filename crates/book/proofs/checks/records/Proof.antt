@@ -1,6 +1,7 @@
 -- `book::checks::records` meets its contract. No check refuses the book, or they are asked one by one. Assumes nothing.
-use mathlib.Core.Path.{sym}
+use mathlib.Core.Path.{sym, _∙_}
 use borrow.Author.Needs.{needs}
+use Rattle.book.proofs.NoneRefuses.{accepts-only}
 use Rattle.book.proofs.checks.records.Statement.{statement}
 use Rattle.book.proofs.checks.records.Tie as tie
 
@@ -8,7 +9,7 @@ none-refuses-requires : tie.Need-none-refuses-requires
 none-refuses-requires c κs = search needs
 
 returns : tie.Need-returns
-returns c = sym (c .before .none-refuses .ensures (c .if1 .taken))
+returns c = accepts-only _ (sym (c .if1 .taken) ∙ c .before .none-refuses .ensures)
 
 one-by-one-requires : tie.Need-one-by-one-requires
 one-by-one-requires c κs = search needs

@@ -1,7 +1,6 @@
--- `quick::energies::energies_hold` meets its contract: the rows hold but for a limit, which their regions' entries give. Assumes nothing.
+-- `quick::energies::energies_hold` meets its contract: the rows hold but for a limit, which their regions' entries give, and where all checks pass each row was summed. Assumes nothing.
 use borrow.Author.Needs.{needs}
-use Rattle.quick.proofs.EnergyTurns.{refused}
-use Rattle.quick.proofs.EnergyEnd.{energies-hold}
+use Rattle.quick.proofs.EnergyEnd.{energies-no, energies-yes}
 use Rattle.quick.proofs.energies.energies_hold.Statement.{statement}
 use Rattle.quick.proofs.energies.energies_hold.Tie as tie
 
@@ -9,7 +8,7 @@ sum-rows-requires : tie.Need-sum-rows-requires
 sum-rows-requires c κs = search needs
 
 returns : tie.Need-returns
-returns c = refused
+returns c = energies-no _ _ _ (c .before .before .sum-rows .ensures) (c .if1 .taken)
 
 entry-holds-requires : tie.Need-entry-holds-requires
 entry-holds-requires c κs = search needs
@@ -27,7 +26,7 @@ entry-holds-requires-5 : tie.Need-entry-holds-requires-5
 entry-holds-requires-5 c κs = search needs
 
 returns-2 : tie.Need-returns-2
-returns-2 c = energies-hold _ _ _ (c .before .before .before .before .before .before .before .before .sum-rows .ensures) (c .before .before .before .before .before .before .if1 .left) (c .before .before .before .before .entry-holds .ensures) (c .before .before .before .entry-holds2 .ensures) (c .before .before .entry-holds3 .ensures) (c .before .entry-holds4 .ensures) (c .entry-holds5 .ensures)
+returns-2 c = energies-yes _ _ _ (c .before .before .before .before .before .before .before .before .before .before .before .pre .1) (c .before .before .before .before .before .before .before .before .sum-rows .ensures) (c .before .before .before .before .before .before .if1 .left) (c .before .before .before .before .entry-holds .ensures) (c .before .before .before .entry-holds2 .ensures) (c .before .before .entry-holds3 .ensures) (c .before .entry-holds4 .ensures) (c .entry-holds5 .ensures)
 
 pub energies-hold-spec : {M : Type 1} → statement M
 energies-hold-spec =

@@ -1,4 +1,4 @@
--- `quick::energies::entry_holds` meets its contract: each test that is joined gives its fact. Assumes nothing.
+-- `quick::energies::entry_holds` meets its contract: it is the test of the sums, of the entry that is read. Assumes nothing.
 use borrow.Author.Needs.{needs}
 use Rattle.quick.proofs.EnergyRows.{entry-holds}
 use Rattle.quick.proofs.energies.entry_holds.Statement.{statement}
@@ -11,7 +11,7 @@ entry-is-requires : tie.Need-entry-is-requires
 entry-is-requires c κs = search needs
 
 returns : tie.Need-returns
-returns c = entry-holds _ _ _ _ (c .before .before .before .entry-row .ensures) (c .before .before .entry-is .ensures)
+returns c = entry-holds (c .before .before .before .args .t) (c .before .before .before .args .g) (c .before .entry-row .ensures) (c .entry-is .ensures)
 
 pub entry-holds-spec : {M : Type 1} → statement M
 entry-holds-spec = tie.close (tie.spec entry-row-requires entry-is-requires returns)

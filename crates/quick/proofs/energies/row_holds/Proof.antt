@@ -1,4 +1,4 @@
--- `quick::energies::row_holds` meets its contract: each test that is joined gives its fact. Assumes nothing.
+-- `quick::energies::row_holds` meets its contract: the region and the reserved bytes are tested as one number. Assumes nothing.
 use borrow.Author.Needs.{needs}
 use Rattle.quick.proofs.EnergyRows.{row-holds}
 use Rattle.quick.proofs.energies.row_holds.Statement.{statement}
@@ -8,7 +8,7 @@ key-of-requires : tie.Need-key-of-requires
 key-of-requires c κs = search needs
 
 returns : tie.Need-returns
-returns c = row-holds _ _ _ _ (c .before .before .before .pre) (search needs) (search needs) (c .before .before .key-of .ensures)
+returns c = row-holds (c .before .before .before .args .before) _ _ (c .before .before .before .args .r) (c .before .before .before .pre) (c .before .before .key-of .ensures)
 
 pub row-holds-spec : {M : Type 1} → statement M
 row-holds-spec = tie.close (tie.spec key-of-requires returns)

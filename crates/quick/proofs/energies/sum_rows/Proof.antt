@@ -1,10 +1,9 @@
--- `quick::energies::sum_rows` meets its contract. The invariant, `Rows`: the rows so far hold, and each place has the sum of its region over them. The measure is what is left. Assumes nothing.
+-- `quick::energies::sum_rows` meets its contract. The invariant, `Rows`: the rows so far keep their rules but for a limit, each place has the sum of its region over them, and the next keeps its rules exactly where it holds after the last one's key. The measure is what is left. Assumes nothing.
 use Prim.Native.Nat.{_≤_, _-_}
 use native.Mathlib.Omega.{arith}
 use borrow.Author.Needs.{needs}
-use borrow.Author.Tests.{not-false}
 use Rattle.records.specs.Rows.{energyRow}
-use Rattle.quick.proofs.EnergyTurns.{Rows, rows-none, rows-more, rows-room, rows-all}
+use Rattle.quick.proofs.EnergyTurns.{Rows, rows-none, rows-stop, rows-more, rows-room, rows-all}
 use Rattle.quick.proofs.energies.sum_rows.Statement.{statement}
 use Rattle.quick.proofs.energies.sum_rows.Tie as tie
 
@@ -27,14 +26,13 @@ row-holds-requires : tie.Need-row-holds-requires Inv-loop μ-loop
 row-holds-requires c κs = rw (c .before .energy-row .ensures) (c .head-at .ensures)
 
 returns : tie.Need-returns Inv-loop μ-loop
-returns c = c .before .before .before .before .before .loop .inv .1 .held
+returns c = rows-stop _ _ (c .before .before .before .before .before .loop .inv .1) (c .before .before .before .energy-row .ensures) (c .before .row-holds .ensures) _ (c .before .before .before .before .loop-test .taken) (c .if1 .taken)
 
 cast-add-row : tie.Need-cast-add-row Inv-loop μ-loop
 cast-add-row c = search needs
 
 add-row-requires : tie.Need-add-row-requires Inv-loop μ-loop
-add-row-requires c κs =
-    rows-room _ _ _ (c .before .before .before .before .before .before .before .before .before .before .pre .1) (c .before .before .before .before .before .before .before .loop-test .taken) (c .before .before .before .before .before .before .before .before .loop .inv .1) (rw (c .before .before .before .before .before .before .energy-row .ensures) (c .before .before .before .before .before .head-at .ensures)) (c .before .before .before .before .row-holds .ensures (not-false _ (c .before .before .before .if1 .left)))
+add-row-requires c κs = rows-room _ _ (c .before .before .before .before .before .before .before .before .loop .inv .1) (c .before .before .before .before .before .before .energy-row .ensures) (c .before .before .before .before .row-holds .ensures) (c .before .before .before .if1 .left) (rw (c .before .before .before .before .before .before .energy-row .ensures) (c .before .before .before .before .before .head-at .ensures)) _ (c .before .before .before .before .before .before .before .before .before .before .pre .1) (c .before .before .before .before .before .before .before .loop-test .taken)
 
 key-of-requires : tie.Need-key-of-requires Inv-loop μ-loop
 key-of-requires c κs = search needs
@@ -46,8 +44,7 @@ loop-less : tie.Need-loop-less Inv-loop μ-loop
 loop-less c = search needs
 
 loop-again : tie.Need-loop-again Inv-loop μ-loop
-loop-again c =
-    (search needs, rows-more _ _ (c .before .before .before .before .before .before .before .before .before .before .loop .inv .1) (c .before .before .before .before .before .before .before .before .energy-row .ensures) (rw (c .before .before .before .before .before .before .before .before .energy-row .ensures) (c .before .before .before .before .before .before .before .head-at .ensures)) (c .before .before .before .before .before .before .row-holds .ensures (not-false _ (c .before .before .before .before .before .if1 .left))) (c .before .add-row .ensures) (c .key-of .ensures))
+loop-again c = (search needs, rows-more _ _ (c .before .before .before .before .before .before .before .before .before .before .loop .inv .1) (c .before .before .before .before .before .before .before .before .energy-row .ensures) (c .before .before .before .before .before .before .row-holds .ensures) (c .before .before .before .before .before .if1 .left) (rw (c .before .before .before .before .before .before .before .before .energy-row .ensures) (c .before .before .before .before .before .before .before .head-at .ensures)) (search needs) (search needs) (c .before .add-row .ensures) (c .key-of .ensures))
 
 returns-2 : tie.Need-returns-2 Inv-loop μ-loop
 returns-2 c = rows-all _ _ _ (c .before .loop .inv .1) (c .before .loop .inv .0) (omega arith)

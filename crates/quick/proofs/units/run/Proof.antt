@@ -1,9 +1,9 @@
--- `quick::units::run` meets its contract. The invariant, `Going`: the rows taken so far follow each other and the sums are theirs, and a row of this constraint with a unit above the last is above the row before it. The measure is what is left. Assumes nothing.
+-- `quick::units::run` meets its contract. The invariant, `Going`: the rows taken so far follow each other and the sums are theirs, and a row of this constraint is above the row before it exactly where its unit is above the last. The measure is what is left. Assumes nothing.
 use Prim.Native.Nat.{_-_}
 use native.Mathlib.Omega.{arith}
 use borrow.Author.Needs.{needs}
 use Rattle.records.specs.Rows.{unitRow}
-use Rattle.quick.proofs.UnitTurns.{Going, going-start, going-more, taken-fits}
+use Rattle.quick.proofs.UnitTurns.{Going, going-start, going-more, going-stop, going-done, along-fits}
 use Rattle.quick.proofs.units.run.Statement.{statement}
 use Rattle.quick.proofs.units.run.Tie as tie
 
@@ -23,10 +23,10 @@ in-run-requires : tie.Need-in-run-requires Inv-loop μ-loop
 in-run-requires c κs = search needs
 
 returns : tie.Need-returns Inv-loop μ-loop
-returns c = c .before .before .before .before .before .loop .inv .taken
+returns c = going-stop _ _ _ _ (c .before .before .before .before .before .loop .inv) (c .before .before .unit-row .ensures) (c .before .in-run .ensures) (c .if2 .taken)
 
 add-requires : tie.Need-add-requires Inv-loop μ-loop
-add-requires c κs = let few = c .before .before .before .before .before .before .before .pre .0 .1 .0 in let h = taken-fits _ _ _ _ few (c .before .before .before .before .before .loop .inv .taken) in (omega arith, (h .plus, (h .minus, h .dcf)))
+add-requires c κs = let few = c .before .before .before .before .before .before .before .pre .0 .1 .0 in let h = along-fits _ _ _ _ few (c .before .before .before .before .before .loop .inv .along) in (omega arith, (h .plus, (h .minus, h .dcf)))
 
 loop-less : tie.Need-loop-less Inv-loop μ-loop
 loop-less c = omega (arith, c .add .ensures .next)
@@ -35,7 +35,7 @@ loop-again : tie.Need-loop-again Inv-loop μ-loop
 loop-again c = going-more _ _ _ _ (c .before .before .before .before .before .before .loop .inv) (c .before .before .before .before .if1 .taken) (c .before .before .before .unit-row .ensures) (c .before .before .in-run .ensures) (c .before .if2 .left) (c .add .ensures)
 
 returns-2 : tie.Need-returns-2 Inv-loop μ-loop
-returns-2 c = c .before .before .loop .inv .taken
+returns-2 c = going-done _ _ _ _ (c .before .before .loop .inv) (omega arith)
 
 pub run-spec : {M : Type 1} → statement M
 run-spec =

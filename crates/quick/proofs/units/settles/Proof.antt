@@ -1,6 +1,6 @@
--- `quick::units::settles` meets its contract. Each test is one of the facts, and small sums are what `sums_ok` asks for. Assumes nothing.
+-- `quick::units::settles` meets its contract. The tests are those of the definition, and small sums are what `sums_ok` asks for. Assumes nothing.
 use borrow.Author.Needs.{needs}
-use Rattle.quick.proofs.UnitTurns.{unsaid, small-sums, small-room, settled}
+use Rattle.quick.proofs.UnitTurns.{small-sums, small-room, settles-no, settles-by}
 use Rattle.quick.proofs.units.settles.Statement.{statement}
 use Rattle.quick.proofs.units.settles.Tie as tie
 
@@ -8,13 +8,13 @@ small-requires : tie.Need-small-requires
 small-requires c κs = search needs
 
 returns : tie.Need-returns
-returns c = λ e. unsaid e
+returns c = settles-no (c .before .before .args .r) (c .before .before .args .t) (c .before .before .args .from) (c .before .small .ensures) (c .if1 .taken)
 
 sums-ok-requires : tie.Need-sums-ok-requires
-sums-ok-requires c κs = small-room (small-sums (c .before .before .before .before .before .args .t) (c .before .before .before .before .small .ensures) (c .before .before .before .if1 .left))
+sums-ok-requires c κs = small-room (small-sums (c .before .before .before .before .args .t) (c .before .before .before .small .ensures) (c .before .before .if1 .left))
 
 returns-2 : tie.Need-returns-2
-returns-2 c = λ e. settled _ _ _ (small-sums _ (c .before .before .before .before .before .small .ensures) (c .before .before .before .before .if1 .left)) (c .sums-ok .ensures) e
+returns-2 c = settles-by (c .before .before .before .before .before .args .r) (c .before .before .before .before .before .args .t) (c .before .before .before .before .before .args .from) (c .before .before .before .before .small .ensures) (c .before .before .before .if1 .left) (c .sums-ok .ensures)
 
 pub settles-spec : {M : Type 1} → statement M
 settles-spec = tie.close (tie.spec small-requires returns sums-ok-requires returns-2)

@@ -1,4 +1,4 @@
--- `totals::divisors::contract_divides` meets its contract. The five regions are tested one after the other, each by the factor that is read. Assumes nothing.
+-- `totals::divisors::contract_divides` meets its contract. The five regions are tested one after the other, each by its own factor. Assumes nothing.
 use borrow.Author.Needs.{needs}
 use Rattle.sections.specs.Search.{all}
 use Rattle.totals.specs.Divisors.{contractDivides}
@@ -8,32 +8,17 @@ use Rattle.totals.proofs.divisors.contract_divides.Tie as tie
 contract-row-requires : tie.Need-contract-row-requires
 contract-row-requires c κs = search needs
 
-array-read-funded : tie.Need-array-read-funded
-array-read-funded c = search needs
-
 funded-requires : tie.Need-funded-requires
 funded-requires c κs = search needs
-
-array-read-funded-2 : tie.Need-array-read-funded-2
-array-read-funded-2 c = search needs
 
 funded-requires-2 : tie.Need-funded-requires-2
 funded-requires-2 c κs = search needs
 
-array-read-funded-3 : tie.Need-array-read-funded-3
-array-read-funded-3 c = search needs
-
 funded-requires-3 : tie.Need-funded-requires-3
 funded-requires-3 c κs = search needs
 
-array-read-funded-4 : tie.Need-array-read-funded-4
-array-read-funded-4 c = search needs
-
 funded-requires-4 : tie.Need-funded-requires-4
 funded-requires-4 c κs = search needs
-
-array-read-funded-5 : tie.Need-array-read-funded-5
-array-read-funded-5 c = search needs
 
 funded-requires-5 : tie.Need-funded-requires-5
 funded-requires-5 c κs = search needs
@@ -47,14 +32,9 @@ contract-divides-spec =
     tie.close
     (tie.spec
     contract-row-requires
-    array-read-funded
     funded-requires
-    array-read-funded-2
     funded-requires-2
-    array-read-funded-3
     funded-requires-3
-    array-read-funded-4
     funded-requires-4
-    array-read-funded-5
     funded-requires-5
     returns)

@@ -1,0 +1,91 @@
+-- Demand 1: every input gets an answer, and a refusal leaves every byte. Each call's promise fixes its answer; by cases on what the rules fix for the
+-- input, it is one of the answers that the demand allows. Assumes nothing.
+use Prim.Native.Nat.{ℕ, _<_}
+use mathlib.Core.Path.{_≡_, refl, _∙_, ap}
+use mathlib.Core.Bool.{Bool, true, false, cond}
+use mathlib.Core.List.{List}
+use mathlib.Core.Logic.{inl, inr}
+use borrow.Author.Tests.{leb-true, leb-false}
+use lib.Dec.{eqb, leb}
+use lib.ListN.{length}
+use Rattle.ground.specs.Put.{put}
+use Rattle.sections.specs.declared.Verdict.{Verdict}
+use Rattle.sections.specs.declared.Verdict.the-variants.{Accepted, Refused}
+use Rattle.book.specs.Book.{bookOf}
+use Rattle.book.specs.Table.{verdict}
+use Rattle.accounts.specs.Account.{publicOf}
+use Rattle.parties.specs.Once.{has}
+use Rattle.statement.specs.Lent.{Outcome, refuses, gives, answerFor, leftIn}
+use Rattle.statement.specs.declared.Written.the-variants as written
+use Rattle.reading.specs.Reading.{isStatement, headingAt, lineAt}
+use Rattle.reading.specs.Calls.{headingRead, lineRead}
+use Rattle.reading.specs.declared.HeadingRead.the-variants as heading
+use Rattle.reading.specs.declared.LineRead.the-variants as line
+use Rattle.rewriting.specs.Rewriting.{rewritten}
+use Rattle.settlement.specs.Settle.{outcome}
+use Rattle.balance.specs.Pools.{Found, past, found, poolsIn, poolAt}
+use Rattle.balance.specs.Balance.{answerTo, balancesIn, ifAccepted, balanceOf}
+use Rattle.balance.specs.declared.Balanced.{Balanced}
+use Rattle.balance.specs.declared.Balanced.the-variants as balanced
+use Rattle.fervolatro.specs.Answers.{verdictAnswer, writtenAnswer, headingAnswer, entryAnswer, poolAnswer, Called}
+use Rattle.fervolatro.specs.declared.VerdictAnswer.{VerdictAnswer}
+use Rattle.fervolatro.specs.declared.WrittenAnswer.{WrittenAnswer}
+use Rattle.fervolatro.specs.declared.HeadingAnswer.{HeadingAnswer}
+use Rattle.fervolatro.specs.declared.EntryAnswer.{EntryAnswer}
+use Rattle.fervolatro.specs.declared.PoolAnswer.{PoolAnswer}
+use Rattle.demands.specs.Demand1.{onABook, onABalance, onALine, onAHeader, onAStatement, onRewriting, OneOf, Answered, written, short, refused, CheckAnswered, PoolAnswered, HeadingAnswered, EntryAnswered, EveryInputIsAnswered}
+use Rattle.demands.proofs.Numbers.{Among, Within, verdict-numbers, outcome-numbers, rewritten-numbers, or-true}
+
+-- ---- the calls that write
+
+called : (numbers : List ℕ) (o : Outcome) → Within numbers o → OneOf numbers 13 → (l : List ℕ) (r : WrittenAnswer) (x : List ℕ) → Called o l r x → Answered numbers o l r x
+unfolding answerFor leftIn writtenAnswer
+called numbers (refuses number place) h k l r x c = refused number place refl (h number place refl) (record { answer = c .answer; bytes = c .left })
+called numbers (gives xs) h k l r x c = by (leb (length xs) (length l)) refl (c .answer) (c .left)
+  where
+    by : (t : Bool) → leb (length xs) (length l) ≡ t → r ≡ writtenAnswer (cond t (written.Length (length xs)) (written.Refused 13 0)) → x ≡ cond t (put l 0 xs) l → Answered numbers (gives xs) l r x
+    by true t a e = written xs refl (record { room = leb-true (length xs) (length l) t; answer = a; bytes = e })
+    by false t a e = short xs refl (leb-false (length xs) (length l) t) k (record { answer = a; bytes = e })
+
+-- ---- the calls that only answer
+
+checked : (b : List ℕ) (v : Verdict) → verdict b ≡ v → (r : VerdictAnswer) → r ≡ verdictAnswer v → CheckAnswered b r
+unfolding verdictAnswer
+checked b Accepted e r a = inl (e, a)
+checked b (Refused number place) e r a = inr (rw a (e, verdict-numbers b number place e))
+
+-- a number of the first ten is one of a balance's
+more : (n : ℕ) → OneOf onABook n → OneOf onABalance n
+unfolding has
+more n h = or-true (eqb 15 n) _ h
+
+pooled : (b : List ℕ) (v : Verdict) → verdict b ≡ v → (f : Found) (r : PoolAnswer) → r ≡ poolAnswer (ifAccepted v (answerTo (bookOf b) f)) → PoolAnswered r
+unfolding poolAnswer ifAccepted answerTo has
+pooled b Accepted e past r a = inr (rw a (refl, refl))
+pooled b Accepted e (found p) r a = inl (rw a (refl, refl))
+pooled b (Refused number place) e f r a = inr (rw a (more number (verdict-numbers b number place e), refl))
+
+header-answered : (t : Bool) (s : List ℕ) (r : HeadingAnswer) → r ≡ headingAnswer (cond t (heading.Heading (headingAt s)) (heading.Refused 14 0)) → HeadingAnswered r
+unfolding headingAnswer has
+header-answered true s r a = inl (rw a (refl, refl))
+header-answered false s r a = inr (rw a (refl, refl))
+
+line-answered : (t past₀ : Bool) (s : List ℕ) (index : ℕ) (r : EntryAnswer) → r ≡ entryAnswer (cond t (cond past₀ (line.Refused 15 0) (line.Line (lineAt s index))) (line.Refused 14 0)) → EntryAnswered r
+unfolding entryAnswer has
+line-answered true true s index r a = inr (rw a (refl, refl))
+line-answered true false s index r a = inl (rw a (refl, refl))
+line-answered false past₀ s index r a = inr (rw a (refl, refl))
+
+-- ---- the demand
+
+pub every-input-is-answered : EveryInputIsAnswered
+unfolding balanceOf balancesIn headingRead lineRead has
+every-input-is-answered =
+    record {
+      check = λ b. checked b (verdict b) refl;
+      statement = λ b account. called onAStatement (outcome b account) (outcome-numbers b account) refl;
+      balance = λ b number. pooled b (verdict b) refl (poolAt (poolsIn (publicOf (bookOf b))) number);
+      header = λ s. header-answered (isStatement s) s;
+      line = λ s index. line-answered (isStatement s) (leb (headingAt s .lines) index) s index;
+      rewrite = λ s. called onRewriting (rewritten s) (rewritten-numbers s) refl;
+    }

@@ -1,0 +1,151 @@
+-- Demand 2: every line is the guide's, every pool closes, and both round trips. Where a call does not refuse, the rules give what it answers, and that is
+-- the guide's by the theorems of the crates below. Assumes nothing.
+use Prim.Native.Nat.{ℕ, zero, suc, _+_, _*_, _≤_, _<_, _^_}
+use mathlib.Core.Path.{_≡_, refl, sym, ap, _∙_, fun-ext}
+use mathlib.Core.Bool.{Bool, true, false, cond}
+use mathlib.Core.List.{List}
+use native.Mathlib.Omega.{arith}
+use lib.Dec.{leb}
+use lib.IntN.{ℤ, pos, natAbs, _+ℤ_}
+use lib.ListN.{length}
+use Rattle.ground.specs.Bytes.{AreBytes, part}
+use Rattle.ground.proofs.Put.{put-there}
+use Rattle.sections.specs.declared.Verdict.{Verdict}
+use Rattle.sections.specs.declared.Verdict.the-variants.{Accepted, Refused}
+use Rattle.book.specs.Book.{bookOf}
+use Rattle.book.specs.Table.{verdict}
+use Rattle.accounts.specs.Rows.{keep, sumOf}
+use Rattle.accounts.specs.Account.{publicOf, rowsOfAccount}
+use Rattle.parties.specs.Once.{has}
+use Rattle.statement.specs.Statement.{statementBytes}
+use Rattle.statement.specs.Lent.{Outcome, refuses, gives}
+use Rattle.statement.specs.declared.Line.{Line}
+use Rattle.reading.specs.Reading.{headingAt, linesIn, isStatement}
+use Rattle.reading.specs.Calls.{headingRead, lineRead}
+use Rattle.reading.specs.declared.HeadingRead.the-variants as heading
+use Rattle.reading.proofs.Trip.{read-and-written}
+use Rattle.rewriting.specs.Rewriting.{rewritten}
+use Rattle.settlement.specs.Settle.{linesOf, headingOf, statementOf, outcome}
+use Rattle.balance.specs.Pools.{Pool, Found, past, found, poolsIn, poolAt, inPool}
+use Rattle.balance.specs.Balance.{sumZ, accountsOf, poolLines, lineCount, lineSum, balanceIn, answerTo, balancesIn, ifAccepted, balanceOf}
+use Rattle.balance.proofs.Closes.{every-pool-closes}
+use Rattle.trips.specs.ReadBack.{ReadBack}
+use Rattle.trips.proofs.Call.{passed}
+use Rattle.trips.proofs.Trip.{written-and-read}
+use Rattle.guide.specs.Guide.{guideLines}
+use Rattle.guide.proofs.Guide.{every-line-is-the-guides}
+use Rattle.fervolatro.specs.Answers.{headingAnswer, entryAnswer, poolAnswer, Called}
+use Rattle.fervolatro.specs.declared.WrittenAnswer.{WrittenAnswer}
+use Rattle.fervolatro.specs.declared.PoolAnswer.{PoolAnswer}
+use Rattle.demands.specs.Demand1.{OneOf, Gives, Answered, written, short, refused, onABook, onAStatement, onRewriting}
+use Rattle.demands.specs.Demand2.{guideStatement, numbered, front, StatementIsTheGuides, linesIn as poolLinesIn, halfUnits, PoolCloses, EveryLineIsTheGuides}
+use Rattle.demands.proofs.Numbers.{verdict-numbers}
+use Rattle.demands.proofs.Numbered.{line-numbered}
+use Rattle.demands.proofs.Demand1.{every-input-is-answered}
+
+-- ---- a call that is not refused
+
+never : {A : Type 0} → _≡_ {A = Bool} false true → A
+never e = absurd (let z : _≡_ {A = ℕ} 0 1 = cc in omega arith)
+
+-- what it gives
+record Given (o : Outcome) (l : List ℕ) (r : WrittenAnswer) (x : List ℕ) : Type 0 where
+  bytes : List ℕ
+  is : o ≡ gives bytes
+  gives-them : Gives bytes l r x
+
+given : (numbers : List ℕ) (o : Outcome) (l : List ℕ) (r : WrittenAnswer) (x : List ℕ) → (OneOf numbers 0 → ⊥) → Answered numbers o l r x → r .refusal ≡ 0 → Given o l r x
+given numbers o l r x none (written xs e g) z = record { bytes = xs; is = e; gives-them = g }
+given numbers o l r x none (short xs e h k g) z = absurd (omega (arith, sym (ap (λ (w : WrittenAnswer). w .refusal) (g .answer)) ∙ z))
+given numbers o l r x none (refused number place e h g) z = absurd (none (rw (sym (ap (λ (w : WrittenAnswer). w .refusal) (g .answer)) ∙ z) at h))
+
+-- what stands at the front
+front-is : (xs l : List ℕ) (r : WrittenAnswer) (x : List ℕ) → Gives xs l r x → front r x ≡ xs
+front-is xs l r x g = rw (g .answer, g .bytes) (put-there l 0 xs (omega (arith, g .room)))
+
+-- ---- the statement
+
+module _ (b : List ℕ) (bytes : AreBytes b) (account : ℕ) (small : account < 2 ^ 32) where
+  -- what the rules give is the guide's
+  guides : (xs : List ℕ) → outcome b account ≡ gives xs → xs ≡ guideStatement b account
+  unfolding statementOf
+  guides xs e =
+      let s = passed b account xs e in
+      s .bytes
+      ∙ ap (λ (ls : List Line). statementBytes (headingOf account (publicOf (bookOf b)) (length ls)) ls) (every-line-is-the-guides b bytes (s .book) account)
+
+  read : (xs : List ℕ) → outcome b account ≡ gives xs → ReadBack (publicOf (bookOf b)) (rowsOfAccount (bookOf b) account) account xs
+  read xs e = written-and-read b account xs bytes small e
+
+  heading-read : (xs : List ℕ) → outcome b account ≡ gives xs → headingRead xs ≡ heading.Heading (headingOf account (publicOf (bookOf b)) (length (guideLines b account)))
+  unfolding headingRead
+  heading-read xs e =
+      let s = passed b account xs e in
+      let back = read xs e in
+      rw (back .accepted) (ap heading.Heading (back .heading ∙ ap (λ (ls : List Line). headingOf account (publicOf (bookOf b)) (length ls)) (every-line-is-the-guides b bytes (s .book) account)))
+
+  line-read : (xs : List ℕ) → outcome b account ≡ gives xs → (index : ℕ) → lineRead xs index ≡ numbered (guideLines b account) index
+  unfolding lineRead
+  line-read xs e index =
+      let s = passed b account xs e in
+      let back = read xs e in
+      rw (back .accepted)
+      (line-numbered xs (headingAt xs .lines) index
+      ∙ ap (λ (ls : List Line). numbered ls index) (back .lines ∙ every-line-is-the-guides b bytes (s .book) account))
+
+  statement-is-the-guides : (l : List ℕ) (r : WrittenAnswer) (x : List ℕ) → Given (outcome b account) l r x → StatementIsTheGuides b account l r x
+  statement-is-the-guides l r x g =
+      let xs = g .bytes in
+      let e = g .is in
+      let f = front-is xs l r x (g .gives-them) in
+      record {
+        bytes = rw (guides xs e) at (g .gives-them);
+        heading = ap headingAnswer (ap headingRead f ∙ heading-read xs e);
+        lines = λ index. ap entryAnswer (ap (λ (s : List ℕ). lineRead s index) f ∙ line-read xs e index);
+      }
+
+-- ---- the balance
+
+module _ (b : List ℕ) (bytes : AreBytes b) (number : ℕ) where
+  pool-closes : (v : verdict b ≡ Accepted) (p : Pool) → poolAt (poolsIn (publicOf (bookOf b))) number ≡ found p → (r : PoolAnswer) → r ≡ poolAnswer (answerTo (bookOf b) (found p)) → PoolCloses b number r
+  unfolding poolAnswer answerTo balanceIn lineCount lineSum poolLines
+  pool-closes v p e r a =
+      let guides = fun-ext (λ (account : ℕ). every-line-is-the-guides b bytes v account) in
+      record {
+        pool = p;
+        there = e;
+        amount = rw a refl;
+        lines = rw a (ap (λ (f : ℕ → List Line). sumOf (λ i. length (keep (inPool p) (f i))) (accountsOf (bookOf b))) guides);
+        sum = rw a (ap (λ (f : ℕ → List Line). sumZ (λ i. sumZ (λ (l : Line). l .amount) (keep (inPool p) (f i))) (accountsOf (bookOf b))) guides);
+        closes = rw a (every-pool-closes b v number p e);
+      }
+
+  balance-closes : (v : Verdict) → verdict b ≡ v → (f : Found) → poolAt (poolsIn (publicOf (bookOf b))) number ≡ f → (r : PoolAnswer) → r ≡ poolAnswer (ifAccepted v (answerTo (bookOf b) f)) → r .refusal ≡ 0 → PoolCloses b number r
+  unfolding ifAccepted answerTo poolAnswer has
+  balance-closes Accepted v past e r a z = absurd (omega (arith, sym (ap (λ (w : PoolAnswer). w .refusal) a) ∙ z))
+  balance-closes Accepted v (found p) e r a z = pool-closes v p e r a
+  balance-closes (Refused k place) v f e r a z = never (rw (sym (ap (λ (w : PoolAnswer). w .refusal) a) ∙ z) at (verdict-numbers b k place v))
+
+-- ---- read and written
+
+rewritten-is : (s : List ℕ) → AreBytes s → (xs : List ℕ) → rewritten s ≡ gives xs → xs ≡ s
+unfolding rewritten
+rewritten-is s bytes xs e = by (isStatement s) refl e
+  where
+    by : (t : Bool) → isStatement s ≡ t → cond t (gives (statementBytes (headingAt s) (linesIn s (headingAt s .lines)))) (refuses 14 0) ≡ gives xs → xs ≡ s
+    by true t d = let same : statementBytes (headingAt s) (linesIn s (headingAt s .lines)) ≡ xs = cc in sym same ∙ read-and-written s bytes t
+    by false t d = absurd (let z : _≡_ {A = ℕ} 0 1 = cc in omega arith)
+
+-- ---- the demand
+
+pub every-line-and-pool-is-the-guides : EveryLineIsTheGuides
+unfolding balanceOf balancesIn has
+every-line-and-pool-is-the-guides =
+    record {
+      statement = λ b bytes account small l r x c z.
+          statement-is-the-guides b bytes account small l r x (given onAStatement (outcome b account) l r x never (every-input-is-answered .statement b account l r x c) z);
+      balance = λ b bytes number r a z. balance-closes b bytes number (verdict b) refl (poolAt (poolsIn (publicOf (bookOf b))) number) refl r a z;
+      rewrite = λ s bytes l r x c z.
+          let g = given onRewriting (rewritten s) l r x never (every-input-is-answered .rewrite s l r x c) z in
+          rw (rewritten-is s bytes (g .bytes) (g .is)) at (g .gives-them);
+    }

@@ -1,0 +1,140 @@
+-- By which numbers each call can refuse: those that 01's table has for it. Assumes nothing.
+use Prim.Native.Nat.{ℕ}
+use mathlib.Core.Path.{_≡_, refl}
+use mathlib.Core.Bool.{Bool, true, false, cond, _||_}
+use mathlib.Core.List.{List, [], _∷_}
+use native.Mathlib.Omega.{arith}
+use lib.Dec.{eqb}
+use Rattle.ground.specs.Each.{Each}
+use Rattle.sections.specs.Refusal.{unless, atRecord, earlier, firstOf}
+use Rattle.sections.specs.declared.Checked.{Checked}
+use Rattle.sections.specs.declared.Checked.the-variants.{Good, Bad}
+use Rattle.sections.specs.declared.Verdict.{Verdict}
+use Rattle.sections.specs.declared.Verdict.the-variants.{Accepted, Refused}
+use Rattle.book.specs.Book.{bookOf}
+use Rattle.book.specs.Table.{verdict, check1, check2, check3, check4, check5, check6, check7, check8, check9, check10}
+use Rattle.accounts.specs.Account.{publicOf, rowsOfAccount, unknown}
+use Rattle.parties.specs.Once.{has}
+use Rattle.statement.specs.Lent.{Outcome, refuses, gives}
+use Rattle.lines.specs.Limit.{anyOver}
+use Rattle.reading.specs.Reading.{isStatement}
+use Rattle.rewriting.specs.Rewriting.{rewritten}
+use Rattle.settlement.specs.Settle.{linesOf, statementOf, settled, ifAccepted, outcome}
+use Rattle.demands.specs.Demand1.{onABook, onAStatement, onRewriting, OneOf}
+
+-- a verdict, and an outcome, that refuses only by one of the numbers
+abbrev pub Among : List ℕ → Verdict → Type 0
+Among numbers v = (number place : ℕ) → v ≡ Refused number place → OneOf numbers number
+
+abbrev pub Within : List ℕ → Outcome → Type 0
+Within numbers o = (number place : ℕ) → o ≡ refuses number place → OneOf numbers number
+
+not-refused : (number place : ℕ) → Accepted ≡ Refused number place → ⊥
+not-refused number place e = let z : _≡_ {A = ℕ} 0 1 = cc in omega arith
+
+pub or-true : (a b : Bool) → b ≡ true → (a || b) ≡ true
+or-true true b e = refl
+or-true false b e = e
+
+not-given : (xs : List ℕ) (number place : ℕ) → gives xs ≡ refuses number place → ⊥
+not-given xs number place e = let z : _≡_ {A = ℕ} 0 1 = cc in omega arith
+
+-- ---- the table
+
+module _ (numbers : List ℕ) where
+  accepts : Among numbers Accepted
+  accepts number place e = absurd (not-refused number place e)
+
+  among-one : (k at₀ : ℕ) → OneOf numbers k → Among numbers (Refused k at₀)
+  among-one k at₀ h number place e = let same : k ≡ number = cc in rw (← same) h
+
+  among-unless : (t : Bool) (k : ℕ) → OneOf numbers k → Among numbers (unless t k)
+  unfolding unless
+  among-unless true k h = accepts
+  among-unless false k h = among-one k 0 h
+
+  among-record : (k offset size : ℕ) (c : Checked) → OneOf numbers k → Among numbers (atRecord k offset size c)
+  unfolding atRecord
+  among-record k offset size Good h = accepts
+  among-record k offset size (Bad i) h = among-one k _ h
+
+  among-first : (vs : List Verdict) → Each (Among numbers) vs → Among numbers (firstOf vs)
+  unfolding firstOf earlier
+  among-first [] h = accepts
+  among-first (Accepted ∷ vs) h = among-first vs (h .1)
+  among-first (Refused k at₀ ∷ vs) h = h .0
+
+-- 1 to 10
+pub verdict-numbers : (b : List ℕ) → Among onABook (verdict b)
+unfolding verdict check1 check2 check3 check4 check5 check6 check7 check8 check9 check10 has
+verdict-numbers b =
+    among-first onABook _ (
+      among-unless onABook _ 1 refl,
+      (
+        among-unless onABook _ 2 refl,
+        (
+          among-unless onABook _ 3 refl,
+          (
+            among-unless onABook _ 4 refl,
+            (
+              among-first onABook _ (among-record onABook 5 _ _ _ refl, (among-record onABook 5 _ _ _ refl, (among-record onABook 5 _ _ _ refl, (among-record onABook 5 _ _ _ refl, (among-record onABook 5 _ _ _ refl, tt))))),
+              (
+                among-first onABook _ (among-record onABook 6 _ _ _ refl, (among-record onABook 6 _ _ _ refl, (among-record onABook 6 _ _ _ refl, (among-record onABook 6 _ _ _ refl, tt)))),
+                (
+                  among-record onABook 7 _ _ _ refl,
+                  (
+                    among-record onABook 8 _ _ _ refl,
+                    (
+                      among-record onABook 9 _ _ _ refl,
+                      (
+                        among-first onABook _ (among-record onABook 10 _ _ _ refl, (among-record onABook 10 _ _ _ refl, tt)),
+                        tt,
+                      ),
+                    ),
+                  ),
+                ),
+              ),
+            ),
+          ),
+        ),
+      ),
+    )
+
+-- ---- the calls that write
+
+within-gives : (numbers xs : List ℕ) → Within numbers (gives xs)
+within-gives numbers xs number place e = absurd (not-given xs number place e)
+
+within-one : (numbers : List ℕ) (k at₀ : ℕ) → OneOf numbers k → Within numbers (refuses k at₀)
+within-one numbers k at₀ h number place e = let same : k ≡ number = cc in rw (← same) h
+
+within-cond : (numbers : List ℕ) (t : Bool) (k : ℕ) (o : Outcome) → OneOf numbers k → Within numbers o → Within numbers (cond t (refuses k 0) o)
+within-cond numbers true k o h w = within-one numbers k 0 h
+within-cond numbers false k o h w = w
+
+-- a number of the first ten is one of a statement's
+more : (n : ℕ) → OneOf onABook n → OneOf onAStatement n
+unfolding has
+more n h = or-true (eqb 11 n) _ (or-true (eqb 12 n) _ (or-true (eqb 13 n) _ h))
+
+within-verdict : (v : Verdict) (o : Outcome) → Among onABook v → Within onAStatement o → Within onAStatement (ifAccepted v o)
+unfolding ifAccepted
+within-verdict Accepted o h w = w
+within-verdict (Refused k at₀) o h w = within-one onAStatement k at₀ (more k (h k at₀ refl))
+
+-- 1 to 10, then 11, 12
+pub outcome-numbers : (b : List ℕ) (account : ℕ) → Within onAStatement (outcome b account)
+unfolding outcome settled has
+outcome-numbers b account =
+    within-verdict (verdict b) _ (verdict-numbers b)
+    (within-cond onAStatement (unknown (rowsOfAccount (bookOf b) account)) 11 _ refl
+    (within-cond onAStatement (anyOver (linesOf (publicOf (bookOf b)) (rowsOfAccount (bookOf b) account))) 12 _ refl (within-gives onAStatement _)))
+
+-- 14
+pub rewritten-numbers : (s : List ℕ) → Within onRewriting (rewritten s)
+unfolding rewritten has
+rewritten-numbers s = by (isStatement s) _
+  where
+    by : (t : Bool) (xs : List ℕ) → Within onRewriting (cond t (gives xs) (refuses 14 0))
+    by true xs = within-gives onRewriting xs
+    by false xs = within-one onRewriting 14 0 refl

@@ -1,0 +1,74 @@
+-- What the demands come to, said once more and without their definitions, so that a demand that says less is refused here. Assumes nothing.
+use Prim.Native.Nat.{ℕ, _+_, _*_, _≤_, _<_, _^_}
+use mathlib.Core.Path.{_≡_, refl, ap, sym, _∙_}
+use mathlib.Core.Bool.{Bool, true, false, _||_}
+use mathlib.Core.List.{List, [], _∷_}
+use mathlib.Core.Logic.{_⊎_, inl, inr, ⊎-elim}
+use native.Mathlib.Omega.{arith}
+use borrow.Author.Tests.{eqb-true}
+use lib.Dec.{eqb}
+use lib.IntN.{ℤ, natAbs, _+ℤ_}
+use Rattle.ground.specs.Bytes.{AreBytes}
+use Rattle.ground.specs.Each.{Each}
+use Rattle.parties.specs.Once.{has}
+use Rattle.statement.specs.Lent.{Outcome}
+use Rattle.settlement.specs.Settle.{outcome}
+use Rattle.balance.specs.Balance.{balanceOf}
+use Rattle.fervolatro.specs.Answers.{verdictAnswer, poolAnswer, Called}
+use Rattle.fervolatro.specs.declared.WrittenAnswer.{WrittenAnswer}
+use Rattle.fervolatro.specs.declared.PoolAnswer.{PoolAnswer}
+use Rattle.demands.specs.Demand1.{onABook, onAStatement, onABalance, onRewriting, onALine, onAHeader, OneOf, Answered, written, short, refused}
+use Rattle.demands.specs.Demand2.{PoolCloses}
+use Rattle.demands.proofs.Demand1.{every-input-is-answered}
+use Rattle.demands.proofs.Demand2.{every-line-and-pool-is-the-guides}
+use Rattle.demands.proofs.Demand3.{no-neighbours-figure}
+use Rattle.demands.proofs.Example.{bookA, bookB, two-books-agree}
+
+-- ---- demand 1
+
+-- what holds of each number of a list holds of one of them
+one-of : (P : ℕ → Type 0) (l : List ℕ) → Each P l → (n : ℕ) → OneOf l n → P n
+unfolding has
+one-of P [] h n e = absurd (let z : _≡_ {A = ℕ} 0 1 = cc in omega arith)
+one-of P (x ∷ l) h n e = by (eqb x n) refl e (one-of P l (h .1) n)
+  where
+    by : (t : Bool) → eqb x n ≡ t → (t || has n l) ≡ true → (OneOf l n → P n) → P n
+    by true t d rest = let same : x ≡ n = eqb-true x n t in rw (← same) (h .0)
+    by false t d rest = rest d
+
+-- a call refuses by the numbers of its table and no others: 0 is none of them, a check gives 1 to 10, a statement 1 to 13, a balance 15 besides
+abbrev From1To : ℕ → ℕ → Type 0
+From1To last n = (1 ≤ n) × (n ≤ last)
+
+pub book-numbers : (n : ℕ) → OneOf onABook n → From1To 10 n
+book-numbers =
+    one-of (From1To 10) onABook
+    ((omega arith, omega arith),
+    ((omega arith, omega arith),
+    ((omega arith, omega arith),
+    ((omega arith, omega arith),
+    ((omega arith, omega arith),
+    ((omega arith, omega arith),
+    ((omega arith, omega arith),
+    ((omega arith, omega arith),
+    ((omega arith, omega arith),
+    ((omega arith, omega arith),
+    tt))))))))))
+
+-- a refused call leaves every byte
+pub refused-and-left : (numbers : List ℕ) (o : Outcome) (l : List ℕ) (r : WrittenAnswer) (x : List ℕ) → Answered numbers o l r x → (r .refusal ≡ 0 → ⊥) → x ≡ l
+refused-and-left numbers o l r x (written xs e g) z = absurd (z (ap (λ (w : WrittenAnswer). w .refusal) (g .answer)))
+refused-and-left numbers o l r x (short xs e h k g) z = g .bytes
+refused-and-left numbers o l r x (refused number place e h g) z = g .bytes
+
+-- ---- demand 2
+
+-- so many half units and no more
+pub within-half-units : (b : List ℕ) (number : ℕ) (r : PoolAnswer) (c : PoolCloses b number r) → 2 * natAbs (r .amount +ℤ r .sum) ≤ r .lines + c .pool .stages
+within-half-units b number r c = c .closes
+
+-- ---- demand 3
+
+-- the two books of the example
+pub the-example : (l : List ℕ) (r s : WrittenAnswer) (x y : List ℕ) → Called (outcome bookA 7) l r x → Called (outcome bookB 7) l s y → (r ≡ s) × (x ≡ y)
+the-example l r s x y p q = let same = no-neighbours-figure .same bookA bookB 7 l r s x y two-books-agree p q in (same .answer, same .bytes)

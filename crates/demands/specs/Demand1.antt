@@ -1,0 +1,102 @@
+-- Demand 1. "Every input gets an answer. Any bytes, any length: the statement, or a refusal by the number the rules fix, with not one byte of the lent
+-- buffer changed. Never 'the caller must check first'." r is what a call answers; of one that is lent a buffer, l is what that held and x what it holds then.
+use Prim.Native.Nat.{ℕ, _≤_, _<_}
+use mathlib.Core.Path.{_≡_}
+use mathlib.Core.Bool.{true}
+use mathlib.Core.List.{List, [], _∷_}
+use mathlib.Core.Logic.{_⊎_}
+use lib.IntN.{pos}
+use lib.ListN.{length}
+use Rattle.ground.specs.Put.{put}
+use Rattle.sections.specs.declared.Verdict.the-variants.{Accepted, Refused}
+use Rattle.book.specs.Table.{verdict}
+use Rattle.parties.specs.Once.{has}
+use Rattle.statement.specs.Lent.{Outcome, refuses, gives}
+use Rattle.reading.specs.Calls.{headingRead, lineRead}
+use Rattle.rewriting.specs.Rewriting.{rewritten}
+use Rattle.settlement.specs.Settle.{outcome}
+use Rattle.balance.specs.Balance.{balanceOf}
+use Rattle.fervolatro.specs.Answers.{verdictAnswer, headingAnswer, entryAnswer, poolAnswer, Called}
+use Rattle.fervolatro.specs.declared.VerdictAnswer.{VerdictAnswer}
+use Rattle.fervolatro.specs.declared.WrittenAnswer.{WrittenAnswer}
+use Rattle.fervolatro.specs.declared.HeadingAnswer.{HeadingAnswer}
+use Rattle.fervolatro.specs.declared.EntryAnswer.{EntryAnswer}
+use Rattle.fervolatro.specs.declared.PoolAnswer.{PoolAnswer}
+
+-- ---- the numbers of 01's table that each call can give
+
+-- "Numbers 1 to 10 come from every call on a book."
+abbrev pub onABook : List ℕ
+onABook = 1 ∷ 2 ∷ 3 ∷ 4 ∷ 5 ∷ 6 ∷ 7 ∷ 8 ∷ 9 ∷ 10 ∷ []
+
+-- "A statement then looks for 11, 12, 13, a balance for 15."
+abbrev pub onAStatement : List ℕ
+onAStatement = 11 ∷ 12 ∷ 13 ∷ onABook
+
+abbrev pub onABalance : List ℕ
+onABalance = 15 ∷ onABook
+
+-- a statement that is written again: "14 is looked for first, then 13"
+abbrev pub onRewriting : List ℕ
+onRewriting = 13 ∷ 14 ∷ []
+
+-- "Asking for one line, numbered from 0, looks for 14, then 15."
+abbrev pub onALine : List ℕ
+onALine = 14 ∷ 15 ∷ []
+
+abbrev pub onAHeader : List ℕ
+onAHeader = 14 ∷ []
+
+abbrev pub OneOf : List ℕ → ℕ → Type 0
+OneOf numbers n = has n numbers ≡ true
+
+-- ---- a call that is lent a buffer
+
+-- it gives xs: they stand at the front, every later byte is what it was, and the answer is how many they are
+pub record Gives (xs l : List ℕ) (r : WrittenAnswer) (x : List ℕ) : Type 0 where
+  pub room : length xs ≤ length l
+  pub answer : r ≡ record { refusal = 0; place = 0; length = length xs }
+  pub bytes : x ≡ put l 0 xs
+
+-- it refuses: "A refusal answers its number and place, any other number in the answer 0, and the lent buffer holds what it held."
+pub record Refuses (number place : ℕ) (l : List ℕ) (r : WrittenAnswer) (x : List ℕ) : Type 0 where
+  pub answer : r ≡ record { refusal = number; place = place; length = 0 }
+  pub bytes : x ≡ l
+
+-- one of these, where o is what the rules fix for the input
+pub data Answered (numbers : List ℕ) (o : Outcome) (l : List ℕ) (r : WrittenAnswer) (x : List ℕ) : Type 0 where
+  written : (xs : List ℕ) → o ≡ gives xs → Gives xs l r x → Answered numbers o l r x
+  short : (xs : List ℕ) → o ≡ gives xs → length l < length xs → OneOf numbers 13 → Refuses 13 0 l r x → Answered numbers o l r x
+  refused : (number place : ℕ) → o ≡ refuses number place → OneOf numbers number → Refuses number place l r x → Answered numbers o l r x
+
+-- ---- a call that only answers: refusal 0, or a number of the table and any other number but the place 0
+
+abbrev pub CheckAnswered : List ℕ → VerdictAnswer → Type 0
+CheckAnswered b r =
+    ((verdict b ≡ Accepted) × (r ≡ record { refusal = 0; place = 0 }))
+    ⊎ ((verdict b ≡ Refused (r .refusal) (r .place)) × OneOf onABook (r .refusal))
+
+abbrev pub PoolAnswered : PoolAnswer → Type 0
+PoolAnswered r =
+    ((r .refusal ≡ 0) × (r .place ≡ 0))
+    ⊎ (OneOf onABalance (r .refusal) × (r ≡ record { refusal = r .refusal; place = r .place; amount = pos 0; lines = 0; sum = pos 0 }))
+
+abbrev pub HeadingAnswered : HeadingAnswer → Type 0
+HeadingAnswered r =
+    ((r .refusal ≡ 0) × (r .place ≡ 0))
+    ⊎ (OneOf onAHeader (r .refusal) × (r ≡ record { refusal = r .refusal; place = 0; account = 0; date = 0; interval = 0; run = 0; lines = 0 }))
+
+abbrev pub EntryAnswered : EntryAnswer → Type 0
+EntryAnswered r =
+    ((r .refusal ≡ 0) × (r .place ≡ 0))
+    ⊎ (OneOf onALine (r .refusal) × (r ≡ record { refusal = r .refusal; place = 0; id = 0; part = 0; regions = 0; unit = 0; amount = pos 0 }))
+
+-- ---- the demand, of what each call of the library promises, for every input
+
+pub record EveryInputIsAnswered : Type 0 where
+  pub check : (b : List ℕ) (r : VerdictAnswer) → r ≡ verdictAnswer (verdict b) → CheckAnswered b r
+  pub statement : (b : List ℕ) (account : ℕ) (l : List ℕ) (r : WrittenAnswer) (x : List ℕ) → Called (outcome b account) l r x → Answered onAStatement (outcome b account) l r x
+  pub balance : (b : List ℕ) (number : ℕ) (r : PoolAnswer) → r ≡ poolAnswer (balanceOf b number) → PoolAnswered r
+  pub header : (s : List ℕ) (r : HeadingAnswer) → r ≡ headingAnswer (headingRead s) → HeadingAnswered r
+  pub line : (s : List ℕ) (index : ℕ) (r : EntryAnswer) → r ≡ entryAnswer (lineRead s index) → EntryAnswered r
+  pub rewrite : (s l : List ℕ) (r : WrittenAnswer) (x : List ℕ) → Called (rewritten s) l r x → Answered onRewriting (rewritten s) l r x

@@ -1,0 +1,77 @@
+-- Demand 2. "Every line is the guide's, to the stated rounding, sign included. Each pool's lines over all accounts miss its amount by no more than the
+-- stated half units. A statement written and read gives the same lines; read and written, the same bytes."
+use Prim.Native.Nat.{ℕ, zero, suc, _+_, _*_, _≤_, _<_, _^_}
+use mathlib.Core.Path.{_≡_}
+use mathlib.Core.List.{List, [], _∷_}
+use lib.IntN.{ℤ, pos, natAbs, _+ℤ_}
+use lib.ListN.{length}
+use Rattle.ground.specs.Bytes.{AreBytes, part}
+use Rattle.book.specs.Book.{bookOf}
+use Rattle.accounts.specs.Rows.{keep, sumOf}
+use Rattle.accounts.specs.Account.{publicOf}
+use Rattle.statement.specs.Statement.{statementBytes}
+use Rattle.statement.specs.declared.Line.{Line}
+use Rattle.reading.specs.Calls.{headingRead, lineRead}
+use Rattle.reading.specs.declared.LineRead.{LineRead}
+use Rattle.reading.specs.declared.LineRead.the-variants as line
+use Rattle.reading.specs.declared.HeadingRead.the-variants as heading
+use Rattle.rewriting.specs.Rewriting.{rewritten}
+use Rattle.settlement.specs.Settle.{headingOf, outcome}
+use Rattle.balance.specs.Pools.{Pool, found, poolsIn, poolAt, inPool}
+use Rattle.balance.specs.Balance.{sumZ, accountsOf, balanceOf}
+use Rattle.guide.specs.Guide.{guideLines}
+use Rattle.fervolatro.specs.Answers.{headingAnswer, entryAnswer, poolAnswer, Called}
+use Rattle.fervolatro.specs.declared.WrittenAnswer.{WrittenAnswer}
+use Rattle.fervolatro.specs.declared.PoolAnswer.{PoolAnswer}
+use Rattle.demands.specs.Demand1.{Gives}
+
+-- ---- the statement
+
+-- an account's statement: its header, "interval, date and run as in the book", and the guide's lines
+abbrev pub guideStatement : List ℕ → ℕ → List ℕ
+guideStatement b account = statementBytes (headingOf account (publicOf (bookOf b)) (length (guideLines b account))) (guideLines b account)
+
+-- line i of a list: "numbered from 0"; 15 past the end
+unfoldable pub numbered : List Line → ℕ → LineRead
+numbered [] i = line.Refused 15 0
+numbered (l ∷ ls) zero = line.Line l
+numbered (l ∷ ls) (suc i) = numbered ls i
+
+-- what a call left in the buffer that it says it wrote
+abbrev pub front : WrittenAnswer → List ℕ → List ℕ
+front r x = part x 0 (r .length)
+
+pub record StatementIsTheGuides (b : List ℕ) (account : ℕ) (l : List ℕ) (r : WrittenAnswer) (x : List ℕ) : Type 0 where
+  -- "every line is the guide's", and so is the header
+  pub bytes : Gives (guideStatement b account) l r x
+  -- "a statement written and read gives the same lines": what the header call and the line call then answer of it
+  pub heading : headingAnswer (headingRead (front r x)) ≡ headingAnswer (heading.Heading (headingOf account (publicOf (bookOf b)) (length (guideLines b account))))
+  pub lines : (index : ℕ) → entryAnswer (lineRead (front r x) index) ≡ entryAnswer (numbered (guideLines b account) index)
+
+-- ---- the balance
+
+-- an account's lines in a pool
+abbrev pub linesIn : List ℕ → Pool → ℕ → List Line
+linesIn b p account = keep (inPool p) (guideLines b account)
+
+-- 01, Balance: "Amount plus sum is at most half a unit of money per line, and one half more for a regulation or FPP pool, or one half more per benefiting
+-- region for a contract, in size": so many half units
+abbrev pub halfUnits : Pool → ℕ → ℕ
+halfUnits p lines = lines + p .stages
+
+pub record PoolCloses (b : List ℕ) (number : ℕ) (r : PoolAnswer) : Type 0 where
+  pub pool : Pool
+  pub there : poolAt (poolsIn (publicOf (bookOf b))) number ≡ found pool
+  pub amount : r .amount ≡ pos (pool .amount)
+  -- "how many lines all accounts have in that pool, and their sum"
+  pub lines : r .lines ≡ sumOf (λ a. length (linesIn b pool a)) (accountsOf (bookOf b))
+  pub sum : r .sum ≡ sumZ (λ a. sumZ (λ (l : Line). l .amount) (linesIn b pool a)) (accountsOf (bookOf b))
+  pub closes : 2 * natAbs (r .amount +ℤ r .sum) ≤ halfUnits pool (r .lines)
+
+-- ---- the demand, of what the calls promise where they do not refuse
+
+pub record EveryLineIsTheGuides : Type 0 where
+  pub statement : (b : List ℕ) → AreBytes b → (account : ℕ) → account < 2 ^ 32 → (l : List ℕ) (r : WrittenAnswer) (x : List ℕ) → Called (outcome b account) l r x → r .refusal ≡ 0 → StatementIsTheGuides b account l r x
+  pub balance : (b : List ℕ) → AreBytes b → (number : ℕ) (r : PoolAnswer) → r ≡ poolAnswer (balanceOf b number) → r .refusal ≡ 0 → PoolCloses b number r
+  -- "read and written, the same bytes"
+  pub rewrite : (s : List ℕ) → AreBytes s → (l : List ℕ) (r : WrittenAnswer) (x : List ℕ) → Called (rewritten s) l r x → r .refusal ≡ 0 → Gives s l r x

@@ -1,0 +1,499 @@
+//! What could be lost, taken from the files in memory, one thing at a time: each has to
+//! bring a complaint about it that was not there before.
+
+use std::rc::Rc;
+
+use crate::edge;
+use crate::edits;
+use crate::promises;
+use crate::rattle::{public_functions, Function};
+use crate::repository::Repository;
+use crate::strays;
+use crate::theorems;
+
+type Guard = fn(&Repository) -> Vec<String>;
+
+/// A guard over the files as they are, and what it then complains of.
+struct Watch<'a> {
+    repository: &'a Repository,
+    guard: Guard,
+    before: Vec<String>,
+}
+
+impl<'a> Watch<'a> {
+    fn over(repository: &'a Repository, guard: Guard) -> Self {
+        let before = guard(repository);
+        Watch {
+            repository,
+            guard,
+            before,
+        }
+    }
+
+    /// Asserts that the guard complains about the thing after the change, and did not
+    /// before.
+    fn notices(&self, about: &str, change: impl FnOnce(&mut Repository)) {
+        let mut changed = self.repository.clone();
+        change(&mut changed);
+        let after = (self.guard)(&changed);
+        let mut new = after.iter().filter(|said| !self.before.contains(said));
+        assert!(
+            new.any(|said| said.contains(about)),
+            "nothing was said of {about}: {after:?}"
+        );
+    }
+}
+
+fn assert_quiet(guard: Guard, repository: &Repository) {
+    let complaints = guard(repository);
+    assert!(complaints.is_empty(), "{complaints:?}");
+}
+
+/// Files of the given texts.
+fn repository_of(files: &[(&str, &str)]) -> Repository {
+    let files = files
+        .iter()
+        .map(|&(path, text)| (path.to_owned(), Rc::from(text)));
+    Repository {
+        files: files.collect(),
+    }
+}
+
+/// Gives a file that is there another text.
+fn rewrite(repository: &mut Repository, path: &str, text: impl FnOnce(&str) -> String) {
+    let file = repository.files.get_mut(path);
+    let file = file.unwrap_or_else(|| panic!("{path} is not there"));
+    *file = Rc::from(text(file));
+}
+
+/// Replaces the one place of a file that has this text.
+fn replace(repository: &mut Repository, path: &str, old: &str, new: &str) {
+    rewrite(repository, path, |text| {
+        assert_eq!(text.matches(old).count(), 1, "{old} in {path}");
+        text.replace(old, new)
+    });
+}
+
+fn append(repository: &mut Repository, path: &str, end: &str) {
+    rewrite(repository, path, |text| text.to_owned() + end);
+}
+
+/// Changes each `ensures` of a function; where `change` gives nothing, it goes.
+fn change_promise(
+    repository: &mut Repository,
+    function: &Function,
+    change: impl Fn(&str) -> Option<String>,
+) {
+    let (first, last) = function.lines;
+    rewrite(repository, &function.file, |text| {
+        let changed = (1..).zip(text.lines()).filter_map(|(number, line)| {
+            let is_promise = line.trim_start().starts_with("ensures");
+            match is_promise && (first..=last).contains(&number) {
+                true => change(line),
+                false => Some(line.to_owned()),
+            }
+        });
+        changed.map(|line| line + "\n").collect()
+    });
+}
+
+/// Has a guard notice a change of the promise of each public function.
+fn notices_of_each(guard: Guard, change: impl Fn(&str) -> Option<String>) {
+    let repository = Repository::read();
+    let watch = Watch::over(&repository, guard);
+    for function in public_functions(&repository) {
+        watch.notices(&function.path, |changed| {
+            change_promise(changed, &function, &change);
+        });
+    }
+}
+
+/// The guards' own reading of the code misses none: each line that begins a public
+/// function is one.
+#[test]
+fn every_public_function_is_read() {
+    let repository = Repository::read();
+    let code = repository.between("crates/", ".rt");
+    let lines = code.flat_map(|(_, text)| text.lines()).map(str::trim_start);
+    let starts = lines.filter(|line| line.starts_with("pub ") && line.contains("fn "));
+    assert_eq!(public_functions(&repository).len(), starts.count());
+}
+
+#[test]
+fn a_promise_that_is_removed_is_noticed() {
+    notices_of_each(promises::empty_promises, |_| None);
+}
+
+#[test]
+fn a_contract_that_is_removed_is_noticed() {
+    notices_of_each(promises::differing_contracts, |_| None);
+}
+
+/// `fervolatro_balance` answered with anything at all.
+#[test]
+fn the_balance_without_its_promise_is_noticed() {
+    let repository = Repository::read();
+    let mut functions = public_functions(&repository).into_iter();
+    let balance = functions.find(|function| function.is_named("fervolatro_balance"));
+    let balance = balance.expect("the library has it");
+    for guard in [promises::empty_promises, promises::differing_contracts] {
+        Watch::over(&repository, guard).notices("fervolatro_balance", |changed| {
+            change_promise(changed, &balance, |_| None);
+        });
+    }
+}
+
+#[test]
+fn a_promise_that_says_nothing_is_noticed() {
+    let repository = Repository::read();
+    let empty = [
+        "r ≡ r",
+        "(r ≡ r)",
+        "r ≡ (r)",
+        "⊤",
+        "Unit",
+        "0 ≡ 0",
+        "(0 ≡ 1 → r ≡ r)",
+        "(r ≡ 0) × (r ≡ r)",
+        "0 ≡ 1",
+        "now (book .entry) ≡ now (book .exit)",
+    ];
+    for function in public_functions(&repository) {
+        for promise in empty.iter().filter(|_| function.signature.contains("->")) {
+            let mut changed = repository.clone();
+            let line = format!("    ensures {{ λ r. ⌜ {promise} ⌝ }}");
+            change_promise(&mut changed, &function, |_| Some(line.clone()));
+            let complaints = promises::missing_of(&again(&changed, &function));
+            assert!(!complaints.is_empty(), "{promise} of {}", function.path);
+        }
+    }
+}
+
+/// The same function as the changed file has it.
+fn again(repository: &Repository, function: &Function) -> Function {
+    let files = [(function.file.as_str(), repository.text(&function.file))];
+    let mut functions = public_functions(&repository_of(&files)).into_iter();
+    let same = functions.find(|other| other.path == function.path);
+    same.expect("the function is still there")
+}
+
+#[test]
+fn a_buffer_that_no_promise_speaks_of_is_noticed() {
+    let repository = Repository::read();
+    let watch = Watch::over(&repository, promises::empty_promises);
+    let functions = public_functions(&repository).into_iter();
+    for function in functions.filter(|function| function.signature.contains("&mut")) {
+        watch.notices(&function.path, |changed| {
+            let forget = |line: &str| Some(line.replace(" .exit)", " .entry)"));
+            change_promise(changed, &function, forget);
+        });
+    }
+}
+
+#[test]
+fn a_changed_promise_is_noticed() {
+    notices_of_each(promises::differing_contracts, |line| {
+        Some(line.replace("⌜ ", "⌜ 0 ≡ 1 → "))
+    });
+}
+
+/// Which narrows what a function promises for.
+#[test]
+fn a_requires_more_is_noticed() {
+    notices_of_each(promises::differing_contracts, |line| {
+        Some(format!("    requires {{ ⌜ 0 ≡ 1 ⌝ }}\n{line}"))
+    });
+}
+
+#[test]
+fn a_new_public_function_is_noticed() {
+    let repository = Repository::read();
+    let guards: [Guard; 3] = [
+        promises::empty_promises,
+        promises::differing_contracts,
+        promises::functions_unnamed,
+    ];
+    for guard in guards {
+        Watch::over(&repository, guard).notices("calendar::is_leap_day", |changed| {
+            let function = "\npub fn is_leap_day(date: u32) -> bool {\n    date == 0\n}\n";
+            append(changed, "crates/calendar/src/lib.rt", function);
+        });
+    }
+}
+
+#[test]
+fn a_public_function_that_is_no_longer_there_is_noticed() {
+    let repository = Repository::read();
+    let guards: [Guard; 2] = [promises::differing_contracts, promises::functions_unnamed];
+    for guard in guards {
+        Watch::over(&repository, guard).notices("fervolatro_balance", |changed| {
+            let path = "crates/fervolatro/src/lib.rt";
+            replace(changed, path, "fn fervolatro_balance", "fn fervolatro_sum");
+        });
+    }
+}
+
+/// Path, crate and name of each edit.
+fn edit_files(repository: &Repository) -> Vec<[String; 3]> {
+    let files = repository.between("crates/", ".edit");
+    let named = files.map(|(path, _)| {
+        let parts: Vec<&str> = path.trim_end_matches(".edit").split('/').collect();
+        let [_, crate_name, _, name] = parts[..] else {
+            panic!("{path} is no edit of a crate");
+        };
+        [path, crate_name, name].map(str::to_owned)
+    });
+    named.collect()
+}
+
+#[test]
+fn an_edit_that_is_deleted_is_noticed() {
+    let repository = Repository::read();
+    let names = Watch::over(&repository, edits::unnamed_or_lost);
+    let counts = Watch::over(&repository, edits::miscounted);
+    for [path, crate_name, name] in edit_files(&repository) {
+        for (watch, about) in [(&names, name), (&counts, crate_name)] {
+            watch.notices(&about, |changed| {
+                changed.files.remove(&path);
+            });
+        }
+    }
+}
+
+#[test]
+fn an_edit_that_is_renamed_is_noticed() {
+    let repository = Repository::read();
+    let watch = Watch::over(&repository, edits::unnamed_or_lost);
+    for [path, crate_name, name] in edit_files(&repository) {
+        for about in [name.as_str(), "renamed_edit"] {
+            watch.notices(about, |changed| {
+                let text = changed.files.remove(&path).expect("the edit is there");
+                let renamed = format!("crates/{crate_name}/must-fail/renamed_edit.edit");
+                changed.files.insert(renamed, text);
+            });
+        }
+    }
+}
+
+#[test]
+fn a_count_of_edits_that_is_off_is_noticed() {
+    let repository = Repository::read();
+    let watch = Watch::over(&repository, edits::miscounted);
+    for name in repository.crates() {
+        let front = format!("{name} ");
+        let mut lines = repository.text(edits::COUNTS).lines();
+        let line = lines.find(|line| line.starts_with(&front));
+        let line = format!("\n{}\n", line.expect("each crate has a line"));
+        for other in [format!("\n{name} 1000\n"), "\n".to_owned()] {
+            watch.notices(name, |changed| {
+                replace(changed, edits::COUNTS, &line, &other);
+            });
+        }
+    }
+    watch.notices("nothing", |changed| {
+        append(changed, edits::COUNTS, "nothing 0\n");
+    });
+}
+
+/// Two functions, one with a helper and a constant, and a caller of both in a crate
+/// above.
+const LOW: &str = "const LIMIT: u8 = 5;\n
+pub fn first(n: u8) -> u8 {\n    helped(n) // } fn other(\n}\n
+fn helped(n: u8) -> u8 {\n    let text = b\"}\";\n    n + LIMIT\n}\n
+pub fn second(n: u8) -> u8 {\n    n * 2\n}\n";
+const HIGH: &str =
+    "use low;\n\npub fn both(n: u8) -> u8 {\n    low::first(n) + low::second(n)\n}\n";
+
+/// An edit of the crate `low`, listed for a function.
+fn listed(edit: &str, function: &str, name: &str) -> Repository {
+    let page = format!("| Function | Edits |\n|---|---|\n| `{function}` | {name} |\n");
+    repository_of(&[
+        ("crates/low/src/lib.rt", LOW),
+        ("crates/high/src/lib.rt", HIGH),
+        ("crates/low/specs/Low.antt", "limit = 5\n"),
+        ("crates/low/must-fail/wrong.edit", edit),
+        (promises::PAGE, &page),
+    ])
+}
+
+const OF_HELPER: &str = "file: src/lib.rt\nold: n + LIMIT\nnew: n\n";
+const OF_CONSTANT: &str = "file: src/lib.rt\nold: u8 = 5;\nnew: u8 = 6;\n";
+const OF_SECOND: &str = "file: src/lib.rt\nold:     n * 2\nnew:     n * 3\n";
+const OF_DEFINITION: &str = "file: specs/Low.antt\nold: 5\nnew: 6\n";
+
+#[test]
+fn an_edit_of_another_function_is_noticed() {
+    let quiet = [
+        (OF_HELPER, "low::first(n)", "low/wrong"),
+        (OF_CONSTANT, "low::first", "low/wrong"),
+        (OF_SECOND, "low::first, second", "low/wrong"),
+        (OF_SECOND, "high::both", "low/wrong (of low::second)"),
+        (OF_HELPER, "high::both", "low/wrong (of `first`)"),
+        (OF_DEFINITION, "high::both", "low/wrong"),
+    ];
+    for (edit, function, name) in quiet {
+        let repository = listed(edit, function, name);
+        assert_quiet(edits::of_other_functions, &repository);
+        assert_quiet(edits::unfit, &repository);
+    }
+    let noticed = [
+        (OF_HELPER, "low::second", "low/wrong"),
+        (OF_CONSTANT, "low::second", "low/wrong"),
+        (OF_SECOND, "low::first", "low/wrong"),
+        (OF_SECOND, "high::both", "low/wrong"),
+        (OF_SECOND, "high::both", "low/wrong (of low::first)"),
+        (OF_SECOND, "low::first", "low/wrong (of low::second)"),
+    ];
+    for (edit, function, name) in noticed {
+        let complaints = edits::of_other_functions(&listed(edit, function, name));
+        assert_eq!(complaints.len(), 1, "{name} beside {function}");
+    }
+}
+
+#[test]
+fn an_edit_that_does_not_fit_is_noticed() {
+    let unfit = [
+        "file: src/lib.rt\nold: n * 5\nnew: n\n",
+        "file: src/lib.rt\nold: fn\nnew: pub fn\n",
+        "file: src/lib.rt\nold: n * 2\nnew: n * 2\n",
+        "file: proofs/Low.antt\nold: 5\nnew: 6\n",
+        "# nothing\n",
+    ];
+    for edit in unfit {
+        let complaints = edits::unfit(&listed(edit, "low::second", "low/wrong"));
+        assert_eq!(complaints.len(), 1, "{edit}");
+    }
+}
+
+/// README's table and the demands' files, as they are to be.
+fn demands() -> Repository {
+    let laws = ("crates/demands/proofs/Laws.antt", "pub law : Law\n");
+    let head = "| Demand | Theorem | File |\n|---|---|---|\n";
+    let mut demands = repository_of(&[laws, ("README.md", head)]);
+    for demand in 1..=3 {
+        let file = format!("crates/demands/proofs/Demand{demand}.antt");
+        let row = format!("| {demand}, in words | `theorem-{demand}` | `{file}` |\n");
+        append(&mut demands, "README.md", &row);
+        let text = format!("pub theorem-{demand} : Demand{demand}\ntheorem-{demand} = refl\n");
+        demands.files.insert(file, Rc::from(text));
+    }
+    demands
+}
+
+#[test]
+fn a_theorem_that_is_lost_is_noticed() {
+    let demands = demands();
+    assert_quiet(theorems::missing, &demands);
+    let watch = Watch::over(&demands, theorems::missing);
+    for named in theorems::named(&demands) {
+        let stated = format!("pub {} :", named.theorem);
+        let unstated = format!("{} :", named.theorem);
+        let empty = ["⊤", "0 ≡ 0"].map(|statement| format!("{stated} {statement}\n"));
+        for instead in [unstated].iter().chain(&empty) {
+            watch.notices(&named.theorem, |changed| {
+                replace(changed, &named.file, &stated, instead);
+            });
+        }
+        watch.notices(&named.theorem, |changed| {
+            changed.files.remove(&named.file);
+        });
+    }
+}
+
+#[test]
+fn a_theorem_that_readme_does_not_name_is_noticed() {
+    let demands = demands();
+    let watch = Watch::over(&demands, theorems::missing);
+    for demand in ["1", "2", "3"] {
+        watch.notices(&format!("no theorem of demand {demand}"), |changed| {
+            let front = format!("| {demand}, in words");
+            replace(changed, "README.md", &front, "| in words");
+        });
+        watch.notices("another-one", |changed| {
+            let file = format!("crates/demands/proofs/Demand{demand}.antt");
+            append(changed, &file, "pub another-one : Another\n");
+        });
+    }
+}
+
+/// Each theorem that README names today.
+#[test]
+fn a_theorem_of_today_that_is_lost_is_noticed() {
+    let repository = Repository::read();
+    let watch = Watch::over(&repository, theorems::missing);
+    for named in theorems::named(&repository) {
+        watch.notices(&named.theorem, |changed| {
+            rewrite(changed, &named.file, |text| {
+                text.replace(&format!("pub {} :", named.theorem), "pub another :")
+            });
+        });
+    }
+}
+
+#[test]
+fn a_file_that_a_page_cites_and_is_gone_is_noticed() {
+    let repository = Repository::read();
+    let watch = Watch::over(&repository, |repository| {
+        theorems::undefined(repository, promises::PAGE)
+    });
+    let cited = theorems::cited(&repository, promises::PAGE);
+    assert!(cited.len() >= 10, "the page cites {} files", cited.len());
+    for cited in cited {
+        watch.notices(cited.path, |changed| {
+            changed.files.remove(cited.path);
+        });
+    }
+}
+
+#[test]
+fn a_definition_that_a_page_cites_and_is_gone_is_noticed() {
+    let page = "The law `two-is-two` (`crates/low/proofs/Low.antt`) says it.";
+    let file = "crates/low/proofs/Low.antt";
+    let text = "  pub two-is-two : 2 ≡ 2\n  two-is-two = refl\n";
+    let repository = repository_of(&[("page.md", page), (file, text)]);
+    let guard: Guard = |repository| theorems::undefined(repository, "page.md");
+    assert_quiet(guard, &repository);
+    Watch::over(&repository, guard).notices("two-is-two", |changed| {
+        replace(changed, file, "pub two-is-two :", "pub two-is-three :");
+    });
+}
+
+/// Each passes the proof.
+#[test]
+fn an_edge_of_another_shape_is_noticed() {
+    let repository = Repository::read();
+    let watch = Watch::over(&repository, edge::unlike_the_header);
+    let verdict = "pub struct VerdictAnswer {\n    pub refusal: u64,\n    pub place: u64,\n";
+    let exchanged = "pub struct VerdictAnswer {\n    pub place: u64,\n    pub refusal: u64,\n";
+    let narrow = "pub struct VerdictAnswer {\n    pub refusal: u32,\n    pub place: u64,\n";
+    let free = format!("#[repr(C)]\n{verdict}");
+    let account = "    account: u32,\n    buffer: &mut [u8],\n";
+    let behind = "    buffer: &mut [u8],\n    account: u32,\n";
+    let changes = [
+        (verdict, exchanged, "fervolatro_check"),
+        (verdict, narrow, "fervolatro_check"),
+        (&free, verdict, "fervolatro_check"),
+        (account, behind, "fervolatro_statement"),
+        ("index: u64", "index: u32", "fervolatro_line"),
+        ("number: u64", "number: u32", "fervolatro_balance"),
+        (
+            "fn fervolatro_rewrite",
+            "fn fervolatro_write",
+            "fervolatro_rewrite",
+        ),
+    ];
+    for (old, new, about) in changes {
+        watch.notices(about, |changed| replace(changed, edge::CODE, old, new));
+    }
+}
+
+#[test]
+fn work_put_aside_is_noticed() {
+    let repository = Repository::read();
+    let watch = Watch::over(&repository, strays);
+    for path in ["wip/", "wip/note.md", "docs/Law.antt", "rust/lib.rt"] {
+        watch.notices(path, |changed| {
+            changed.files.insert(path.to_owned(), Rc::from(""));
+        });
+    }
+}

@@ -1,0 +1,94 @@
+//! Guards: what the repository has to hold, so that a contract, a theorem or an edit
+//! cannot be lost without the gate's noticing. Nothing here proves anything: that a
+//! contract holds, and that an edit is refused, is for `rt ci` to say.
+//!
+//! Each guard takes the repository's files as they are in memory, and gives its
+//! complaints. The tests of `losses` take something away first, and ask for a complaint
+//! about it.
+
+mod edge;
+mod edits;
+mod losses;
+mod page;
+mod promises;
+mod rattle;
+mod repository;
+mod theorems;
+mod word_for_word;
+
+use repository::Repository;
+
+fn assert_none(complaints: &[String]) {
+    let count = complaints.len();
+    assert!(count == 0, "{count} complaints:\n{}", complaints.join("\n"));
+}
+
+#[test]
+fn every_public_function_has_a_promise() {
+    assert_none(&promises::empty_promises(&Repository::read()));
+}
+
+#[test]
+fn contracts_stand_word_for_word_in_promises() {
+    assert_none(&promises::differing_contracts(&Repository::read()));
+}
+
+#[test]
+fn every_public_function_is_named_in_promises() {
+    assert_none(&promises::functions_unnamed(&Repository::read()));
+}
+
+#[test]
+fn every_edit_is_there_and_named_in_promises() {
+    assert_none(&edits::unnamed_or_lost(&Repository::read()));
+}
+
+#[test]
+fn no_crate_has_lost_an_edit() {
+    assert_none(&edits::miscounted(&Repository::read()));
+}
+
+#[test]
+fn every_edit_fits_the_code() {
+    assert_none(&edits::unfit(&Repository::read()));
+}
+
+#[test]
+fn every_edit_is_of_the_function_it_is_listed_for() {
+    assert_none(&edits::of_other_functions(&Repository::read()));
+}
+
+#[test]
+fn every_demand_has_its_theorem() {
+    assert_none(&theorems::missing(&Repository::read()));
+}
+
+#[test]
+fn what_the_pages_cite_is_defined() {
+    for page in ["README.md", "docs/PROMISES.md", "docs/DECISIONS.md"] {
+        assert_none(&theorems::undefined(&Repository::read(), page));
+    }
+}
+
+#[test]
+fn the_edge_is_the_header_s() {
+    assert_none(&edge::unlike_the_header(&Repository::read()));
+}
+
+#[test]
+fn nothing_lies_outside_the_crates() {
+    assert_none(&strays(&Repository::read()));
+}
+
+/// Work that was put aside, and Rattle or antt that no gate looks at.
+fn strays(repository: &Repository) -> Vec<String> {
+    let paths = repository.files.keys();
+    let is_stray = |path: &&String| {
+        let is_proved = path.ends_with(".rt") || path.ends_with(".antt");
+        path.starts_with("wip/") || is_proved && !path.starts_with("crates/")
+    };
+    let strays = paths.filter(is_stray);
+    strays
+        .map(|path| format!("{path} lies outside the crates"))
+        .collect()
+}

@@ -1,0 +1,63 @@
+//! Tables and code spans of a page.
+
+/// A row of a table, its cells under the columns' names.
+#[derive(Debug)]
+pub struct Row {
+    pub columns: Vec<String>,
+    pub cells: Vec<String>,
+}
+
+impl Row {
+    pub fn first(&self) -> &str {
+        self.cells.first().map_or("", String::as_str)
+    }
+
+    /// The cell under a column, if the table has the column.
+    pub fn cell(&self, column: &str) -> Option<&str> {
+        let at = self.columns.iter().position(|name| name == column)?;
+        self.cells.get(at).map(String::as_str)
+    }
+}
+
+/// The rows of all tables: a table is a row of names, a row of dashes, then its rows.
+pub fn rows(page: &str) -> Vec<Row> {
+    let mut rows = Vec::new();
+    let mut columns: Option<Vec<String>> = None;
+    let mut lines = page.lines().peekable();
+    while let Some(line) = lines.next() {
+        let Some(cells) = cells(line) else {
+            columns = None;
+            continue;
+        };
+        if let Some(columns) = columns.clone() {
+            rows.push(Row { columns, cells });
+        } else if lines.next_if(|line| line.starts_with("|-")).is_some() {
+            columns = Some(cells);
+        }
+    }
+    rows
+}
+
+fn cells(line: &str) -> Option<Vec<String>> {
+    let inner = line.trim().strip_prefix('|')?.strip_suffix('|')?;
+    Some(
+        inner
+            .split('|')
+            .map(|cell| cell.trim().to_owned())
+            .collect(),
+    )
+}
+
+/// What stands between single backquotes.
+pub fn code_spans(text: &str) -> Vec<&str> {
+    text.split('`').skip(1).step_by(2).collect()
+}
+
+/// The lines that belong to no table and to no block of code.
+pub fn prose(page: &str) -> impl Iterator<Item = &str> {
+    let mut is_code = false;
+    page.lines().filter(move |line| {
+        is_code ^= line.starts_with("```");
+        !is_code && !line.starts_with('|')
+    })
+}

@@ -1,0 +1,755 @@
+/*
+ * Sees the shape of the library's edge from C: the order and the width of every
+ * field of every answer and of every parameter, which no contract of the proved
+ * code speaks of. The fields of an answer differ from each other, and numbers of
+ * 2^32 and above stand wherever the type and the rules have room for them.
+ *
+ * The one argument is the machine's name (`uname -m`). Lengths of 2^32 and above
+ * want a mapping of that size; a machine other than x86_64, where this runs in an
+ * emulator, may not have one, and the program then says that they were not tried.
+ *
+ * Exits non-zero with a message if an answer is not the expected one. Each
+ * expected number is worked out here from the rules.
+ */
+#define _DEFAULT_SOURCE
+
+#include <inttypes.h>
+#include <stdio.h>
+#include <stdlib.h>
+#include <string.h>
+#include <sys/mman.h>
+
+#include "fervolatro.h"
+
+static const uint64_t TWO_TO_32 = UINT64_C(1) << 32;
+
+static int failures = 0;
+
+/* ---- Answers, as C sees them: fields of 64 bits, with nothing between them. */
+
+enum {
+    VERDICT_FIELDS = 2,
+    WRITTEN_FIELDS = 3,
+    POOL_FIELDS = 5,
+    HEADING_FIELDS = 7,
+    ENTRY_FIELDS = 7,
+    MOST_FIELDS = 7
+};
+
+#define HAS_FIELDS(answer, fields)                            \
+    _Static_assert(sizeof(answer) == fields * sizeof(uint64_t), \
+                   #answer " has fields of 64 bits and no others")
+
+HAS_FIELDS(fervolatro_verdict, VERDICT_FIELDS);
+HAS_FIELDS(fervolatro_written, WRITTEN_FIELDS);
+HAS_FIELDS(fervolatro_pool, POOL_FIELDS);
+HAS_FIELDS(fervolatro_heading, HEADING_FIELDS);
+HAS_FIELDS(fervolatro_entry, ENTRY_FIELDS);
+
+static uint64_t field(const void *answer, size_t at)
+{
+    uint64_t value;
+
+    memcpy(&value, (const uint8_t *)answer + at * sizeof value, sizeof value);
+    return value;
+}
+
+/* What is expected is given by the names of the header's fields. So a field that
+ * stands elsewhere, in the header or in the library, is seen. */
+static void expect_fields(const char *name, size_t fields, const void *got,
+                          const void *expected)
+{
+    size_t at;
+
+    for (at = 0; at < fields; at++) {
+        if (field(got, at) != field(expected, at)) {
+            fprintf(stderr,
+                    "%s: field %zu: expected %" PRIu64 ", got %" PRIu64 "\n",
+                    name, at, field(expected, at), field(got, at));
+            failures++;
+        }
+    }
+}
+
+static void expect_verdict(const char *name, fervolatro_verdict got,
+                           fervolatro_verdict expected)
+{
+    expect_fields(name, VERDICT_FIELDS, &got, &expected);
+}
+
+static void expect_written(const char *name, fervolatro_written got,
+                           fervolatro_written expected)
+{
+    expect_fields(name, WRITTEN_FIELDS, &got, &expected);
+}
+
+static void expect_pool(const char *name, fervolatro_pool got,
+                        fervolatro_pool expected)
+{
+    expect_fields(name, POOL_FIELDS, &got, &expected);
+}
+
+static void expect_heading(const char *name, fervolatro_heading got,
+                           fervolatro_heading expected)
+{
+    expect_fields(name, HEADING_FIELDS, &got, &expected);
+}
+
+static void expect_entry(const char *name, fervolatro_entry got,
+                         fervolatro_entry expected)
+{
+    expect_fields(name, ENTRY_FIELDS, &got, &expected);
+}
+
+/* Fields behind refusal and place: none is 0, as refusal and place then are, and no
+ * two are equal. So no two of them can be exchanged unseen. */
+static void expect_distinct(const char *name, size_t fields, const void *answer)
+{
+    size_t at, other;
+
+    for (at = 2; at < fields; at++) {
+        int same = field(answer, at) == 0;
+
+        for (other = 2; other < at; other++) {
+            same |= field(answer, at) == field(answer, other);
+        }
+        if (same) {
+            fprintf(stderr, "%s: field %zu does not differ\n", name, at);
+            failures++;
+        }
+    }
+}
+
+/* ---- Records, put into bytes where 01 has their fields. */
+
+static void put(uint8_t *bytes, size_t at, size_t width, uint64_t value)
+{
+    size_t i;
+
+    for (i = 0; i < width; i++) {
+        bytes[at + i] = (uint8_t)(value >> (8 * i));
+    }
+}
+
+enum {
+    HEADER_LEN = 24,
+    ENTRY_LEN = 12,
+    ENTRIES_END = HEADER_LEN + 5 * ENTRY_LEN,
+    CONSTRAINT_LEN = 40,
+    UNIT_LEN = 20,
+    ENERGY_LEN = 24,
+    CONTRACT_LEN = 36,
+    LINE_LEN = 24
+};
+
+/* Header and lines of a statement and header of a book begin alike: mark,
+ * version 1, then these three. No two of all the numbers here are equal. */
+enum { INTERVAL = 287, DATE = 20960229, RUN = 98 };
+
+static void put_front(uint8_t *bytes, const char *mark)
+{
+    memcpy(bytes, mark, 3);
+    put(bytes, 4, 2, 1);
+    put(bytes, 6, 2, INTERVAL);
+    put(bytes, 8, 4, DATE);
+    put(bytes, 12, 2, RUN);
+}
+
+static void put_counts(uint8_t *book, uint64_t constraints, uint64_t units,
+                       uint64_t energies, uint64_t contracts)
+{
+    put(book, 14, 2, constraints);
+    put(book, 16, 2, units);
+    put(book, 18, 2, energies);
+    put(book, 20, 2, contracts);
+}
+
+static void put_constraint(uint8_t *at, uint64_t id, uint64_t service,
+                           uint64_t regions, uint64_t mode, uint64_t cost)
+{
+    put(at, 0, 4, id);
+    put(at, 4, 1, service);
+    put(at, 5, 1, regions);
+    put(at, 6, 1, mode);
+    put(at, 8, 8, cost);
+}
+
+static void put_unit(uint8_t *at, uint64_t constraint, uint64_t unit,
+                     uint64_t account, int64_t cf, int64_t dcf)
+{
+    put(at, 0, 4, constraint);
+    put(at, 4, 4, unit);
+    put(at, 8, 4, account);
+    put(at, 12, 4, (uint64_t)cf);
+    put(at, 16, 4, (uint64_t)dcf);
+}
+
+/* Of the energy 1 kWh of ACE is residual, and no ASOE. */
+static void put_energy(uint8_t *at, uint64_t account, uint64_t region,
+                       int64_t ace, int64_t asoe)
+{
+    put(at, 0, 4, account);
+    put(at, 4, 1, region);
+    put(at, 8, 4, (uint64_t)ace);
+    put(at, 12, 4, (uint64_t)asoe);
+    put(at, 16, 4, (uint64_t)INT64_C(-1));
+}
+
+/* The whole benefit is one region's. */
+static void put_contract(uint8_t *at, uint64_t id, uint64_t kind,
+                         uint64_t payment, size_t region)
+{
+    put(at, 0, 4, id);
+    put(at, 4, 1, kind);
+    put(at, 8, 8, payment);
+    put(at, 16 + 4 * region, 4, 1000000);
+}
+
+/* ---- A book that is accepted, with names of 2^31 and above. */
+
+#define ACCOUNT UINT32_C(0xFEDCBA98)
+#define CONTINGENCY UINT32_C(0x8BADF00D)
+#define REGULATION UINT32_C(0xF00DFACE)
+#define CONTRACT UINT32_C(0xCAFED00D)
+#define UNIT UINT32_C(0xDEADBEEF)
+#define OTHER_UNIT UINT32_C(0xE1234567)
+
+enum {
+    SA1 = 2,
+    /* All regions but QLD1; all but NSW1. SA1, bit 2, is in both. */
+    CONTINGENCY_REGIONS = 29,
+    REGULATION_REGIONS = 30,
+    CONSTRAINTS_AT = ENTRIES_END,
+    UNITS_AT = CONSTRAINTS_AT + 2 * CONSTRAINT_LEN,
+    ENERGIES_AT = UNITS_AT + 2 * UNIT_LEN,
+    CONTRACTS_AT = ENERGIES_AT + 3 * ENERGY_LEN,
+    BOOK_LEN = CONTRACTS_AT + CONTRACT_LEN
+};
+
+/*
+ * Energy, all of it in SA1: accounts 3 and 5 and ACCOUNT have ACE -1, -2 and -3,
+ * in all -6; ASOE 1 each, in all 3; residual ACE -1 each, in all a residual total
+ * of 3.
+ *
+ * Factors of the regulation constraint: CFs 999,998 - 1,000,000 and RCF 2 make 0,
+ * the negative one -1,000,000; DCFs -700,000 - 100,000 and DRCF -200,000 make
+ * -1,000,000. Price x RCR is 2,500,000 x 2,400,000 = 6,000,000,000,000.
+ */
+static void make_book(uint8_t book[BOOK_LEN])
+{
+    uint8_t *sa1 = book + HEADER_LEN + SA1 * ENTRY_LEN;
+    uint8_t *regulation = book + CONSTRAINTS_AT + CONSTRAINT_LEN;
+
+    memset(book, 0, BOOK_LEN);
+    put_front(book, "RCB");
+    put_counts(book, 2, 2, 3, 1);
+    put(sa1, 0, 4, (uint64_t)INT64_C(-6));
+    put(sa1, 4, 4, 3);
+    put(sa1, 8, 4, 3);
+
+    put_constraint(book + CONSTRAINTS_AT, CONTINGENCY, 1, CONTINGENCY_REGIONS, 0,
+                   UINT64_C(49999999999));
+    put_constraint(regulation, REGULATION, 10, REGULATION_REGIONS, 1,
+                   UINT64_C(30000000000));
+    put(regulation, 16, 4, 2500000);
+    put(regulation, 20, 4, 2400000);
+    put(regulation, 24, 4, 600000);
+    put(regulation, 28, 4, 2);
+    put(regulation, 32, 4, (uint64_t)INT64_C(-200000));
+
+    put_unit(book + UNITS_AT, REGULATION, UNIT, ACCOUNT, 999998, -700000);
+    put_unit(book + UNITS_AT + UNIT_LEN, REGULATION, OTHER_UNIT, 3, -1000000,
+             -100000);
+    put_energy(book + ENERGIES_AT, 3, SA1, -1, 1);
+    put_energy(book + ENERGIES_AT + ENERGY_LEN, 5, SA1, -2, 1);
+    put_energy(book + ENERGIES_AT + 2 * ENERGY_LEN, ACCOUNT, SA1, -3, 1);
+    put_contract(book + CONTRACTS_AT, CONTRACT, 2, UINT64_C(40000000001), SA1);
+}
+
+/*
+ * ACCOUNT's lines.
+ *
+ * Contingency, raise: 49,999,999,999 x 1 / 3 = 16,666,666,666 and a third.
+ *
+ * Regulation. FPP pool 6,000,000,000,000 / 120 = 50,000,000,000; used
+ * 30,000,000,000 x 600,000 / 1,000,000 = 18,000,000,000; unused the rest,
+ * 12,000,000,000. The unit: 50,000,000,000 x 999,998 / 1,000,000; its CF is not
+ * negative, so nothing of used; 12,000,000,000 x -700,000 / 1,000,000. Residual
+ * pools: 50,000,000,000 x 2 / 1,000,000 = 100,000; RCF is not negative, so 0;
+ * 12,000,000,000 x -200,000 / 1,000,000 = -2,400,000,000. The account has a third
+ * of each: 33,333 and a third; 0; -800,000,000.
+ *
+ * Contract: r = 40,000,000,001 is odd, so the consumed half is 20,000,000,001, of
+ * which 3 / 6 is 10,000,000,000 and a half; the sent-out half is 20,000,000,000,
+ * of which a third is 6,666,666,666 and two thirds.
+ */
+enum { LINES = 9, STATEMENT_LEN = HEADER_LEN + LINES * LINE_LEN };
+
+static const fervolatro_entry LINE[LINES] = {
+    {.id = CONTINGENCY, .part = 2, .regions = CONTINGENCY_REGIONS,
+     .amount = -INT64_C(16666666666)},
+    {.id = REGULATION, .part = 3, .regions = REGULATION_REGIONS, .unit = UNIT,
+     .amount = INT64_C(49999900000)},
+    {.id = REGULATION, .part = 4, .regions = REGULATION_REGIONS, .unit = UNIT,
+     .amount = 0},
+    {.id = REGULATION, .part = 5, .regions = REGULATION_REGIONS, .unit = UNIT,
+     .amount = -INT64_C(8400000000)},
+    {.id = REGULATION, .part = 6, .regions = REGULATION_REGIONS,
+     .amount = 33333},
+    {.id = REGULATION, .part = 7, .regions = REGULATION_REGIONS, .amount = 0},
+    {.id = REGULATION, .part = 8, .regions = REGULATION_REGIONS,
+     .amount = -800000000},
+    {.id = CONTRACT, .part = 9, .regions = 1 << SA1,
+     .amount = -INT64_C(10000000001)},
+    {.id = CONTRACT, .part = 10, .regions = 1 << SA1,
+     .amount = -INT64_C(6666666667)},
+};
+
+static const fervolatro_heading HEADING = {.account = ACCOUNT,
+                                           .date = DATE,
+                                           .interval = INTERVAL,
+                                           .run = RUN,
+                                           .lines = LINES};
+
+/* The bytes of ACCOUNT's statement. */
+static void make_statement(uint8_t statement[STATEMENT_LEN])
+{
+    uint8_t *line = statement + HEADER_LEN;
+    size_t i;
+
+    memset(statement, 0, STATEMENT_LEN);
+    put_front(statement, "RCS");
+    put(statement, 14, 2, LINES);
+    put(statement, 16, 4, ACCOUNT);
+    for (i = 0; i < LINES; i++, line += LINE_LEN) {
+        put(line, 0, 4, LINE[i].id);
+        put(line, 4, 1, LINE[i].part);
+        put(line, 5, 1, LINE[i].regions);
+        put(line, 8, 4, LINE[i].unit);
+        put(line, 16, 8, (uint64_t)LINE[i].amount);
+    }
+}
+
+/*
+ * The pools over accounts 3 and 5 and ACCOUNT.
+ *
+ * Contingency: three lines of -16,666,666,666. FPP: the units' 49,999,900,000 and
+ * -50,000,000,000, three of 33,333. Used: the other unit's -18,000,000,000, all
+ * else 0. Unused: the units' -8,400,000,000 and -1,200,000,000, three of
+ * -800,000,000. Contract: of 20,000,000,001 by ACE a sixth, 3,333,333,333 and a
+ * half, two sixths, 6,666,666,667, and 10,000,000,001, in all 20,000,000,002; by
+ * ASOE three of 6,666,666,667, in all 20,000,000,001.
+ */
+enum { POOLS = 5 };
+
+static const fervolatro_pool POOL[POOLS] = {
+    {.amount = INT64_C(49999999999), .lines = 3,
+     .sum = -INT64_C(49999999998)},
+    {.amount = 0, .lines = 5, .sum = -1},
+    {.amount = INT64_C(18000000000), .lines = 5,
+     .sum = -INT64_C(18000000000)},
+    {.amount = INT64_C(12000000000), .lines = 5,
+     .sum = -INT64_C(12000000000)},
+    {.amount = INT64_C(40000000001), .lines = 6,
+     .sum = -INT64_C(40000000003)},
+};
+
+/* ---- Answers of calls that go well. */
+
+enum { ROOM = STATEMENT_LEN + LINE_LEN, UNTOUCHED = 0xA5 };
+
+/* The statement stands at the front of the buffer, and what follows it is
+ * untouched. */
+static void expect_left(const char *name, const uint8_t *buffer, size_t room,
+                        const uint8_t *front, size_t front_len)
+{
+    size_t at;
+    int differs = memcmp(buffer, front, front_len) != 0;
+
+    for (at = front_len; at < room; at++) {
+        differs |= buffer[at] != UNTOUCHED;
+    }
+    if (differs) {
+        fprintf(stderr, "%s: other bytes in the buffer\n", name);
+        failures++;
+    }
+}
+
+static void good_calls_on_the_book(const uint8_t *book,
+                                   const uint8_t *statement)
+{
+    uint8_t buffer[ROOM];
+    uint64_t pool;
+
+    expect_verdict("check", fervolatro_check(book, BOOK_LEN),
+                   (fervolatro_verdict){0});
+
+    memset(buffer, UNTOUCHED, ROOM);
+    expect_written("statement",
+                   fervolatro_statement(book, BOOK_LEN, ACCOUNT, buffer, ROOM),
+                   (fervolatro_written){.length = STATEMENT_LEN});
+    expect_left("statement", buffer, ROOM, statement, STATEMENT_LEN);
+
+    for (pool = 0; pool < POOLS; pool++) {
+        expect_pool("balance", fervolatro_balance(book, BOOK_LEN, pool),
+                    POOL[pool]);
+    }
+}
+
+static void good_calls_on_the_statement(const uint8_t *statement)
+{
+    uint8_t buffer[ROOM];
+    uint64_t index;
+
+    expect_heading("header", fervolatro_header(statement, STATEMENT_LEN),
+                   HEADING);
+    for (index = 0; index < LINES; index++) {
+        expect_entry("line", fervolatro_line(statement, STATEMENT_LEN, index),
+                     LINE[index]);
+    }
+
+    memset(buffer, UNTOUCHED, ROOM);
+    expect_written("rewrite",
+                   fervolatro_rewrite(statement, STATEMENT_LEN, buffer, ROOM),
+                   (fervolatro_written){.length = STATEMENT_LEN});
+    expect_left("rewrite", buffer, ROOM, statement, STATEMENT_LEN);
+}
+
+/* ---- Refusals: number and place differ, and every other field is 0. */
+
+/* A book of the most records; the last contract's kind is 3, and no earlier
+ * record breaks a rule of its own. It is refused by 5, at a place of 39,760:
+ * above 2^15, and different in each of its two bytes. */
+enum {
+    MOST_CONSTRAINTS = 64,
+    MOST_UNITS = 600,
+    MOST_ENERGIES = 1024,
+    MOST_CONTRACTS = 16,
+    LAST_CONTRACT_AT = ENTRIES_END + MOST_CONSTRAINTS * CONSTRAINT_LEN
+                       + MOST_UNITS * UNIT_LEN + MOST_ENERGIES * ENERGY_LEN
+                       + (MOST_CONTRACTS - 1) * CONTRACT_LEN,
+    LARGEST_LEN = LAST_CONTRACT_AT + CONTRACT_LEN
+};
+
+_Static_assert(LAST_CONTRACT_AT == 39760, "84 + 2,560 + 12,000 + 24,576 + 540");
+
+static void make_refused(uint8_t book[LARGEST_LEN])
+{
+    uint8_t *at = book + ENTRIES_END;
+    uint64_t i;
+
+    memset(book, 0, LARGEST_LEN);
+    put_front(book, "RCB");
+    put_counts(book, MOST_CONSTRAINTS, MOST_UNITS, MOST_ENERGIES,
+               MOST_CONTRACTS);
+    for (i = 1; i <= MOST_CONSTRAINTS; i++, at += CONSTRAINT_LEN) {
+        put_constraint(at, i, 1, 1, 0, 0);
+    }
+    for (i = 1; i <= MOST_UNITS; i++, at += UNIT_LEN) {
+        put_unit(at, 1, i, 1, 0, 0);
+    }
+    for (i = 1; i <= MOST_ENERGIES; i++, at += ENERGY_LEN) {
+        put_energy(at, i, 0, -1, 0);
+    }
+    for (i = 1; i <= MOST_CONTRACTS; i++, at += CONTRACT_LEN) {
+        put_contract(at, i, i < MOST_CONTRACTS ? 1 : 3, 0, 0);
+    }
+}
+
+static void refused_calls_on_a_book(void)
+{
+    static uint8_t book[LARGEST_LEN];
+    uint8_t buffer[ROOM];
+
+    make_refused(book);
+    expect_verdict(
+        "check refused", fervolatro_check(book, LARGEST_LEN),
+        (fervolatro_verdict){.refusal = 5, .place = LAST_CONTRACT_AT});
+
+    memset(buffer, UNTOUCHED, ROOM);
+    expect_written(
+        "statement refused",
+        fervolatro_statement(book, LARGEST_LEN, 1, buffer, ROOM),
+        (fervolatro_written){.refusal = 5, .place = LAST_CONTRACT_AT});
+    expect_left("statement refused", buffer, ROOM, buffer, 0);
+
+    expect_pool("balance refused", fervolatro_balance(book, LARGEST_LEN, 0),
+                (fervolatro_pool){.refusal = 5, .place = LAST_CONTRACT_AT});
+}
+
+/* A byte less than the statement: 14. One of the buffer's: 13. */
+static void refused_calls_on_a_statement(const uint8_t *statement)
+{
+    uint8_t buffer[ROOM];
+
+    expect_heading("header refused",
+                   fervolatro_header(statement, STATEMENT_LEN - 1),
+                   (fervolatro_heading){.refusal = 14});
+    expect_entry("line refused",
+                 fervolatro_line(statement, STATEMENT_LEN - 1, 0),
+                 (fervolatro_entry){.refusal = 14});
+
+    memset(buffer, UNTOUCHED, ROOM);
+    expect_written(
+        "rewrite refused",
+        fervolatro_rewrite(statement, STATEMENT_LEN - 1, buffer, ROOM),
+        (fervolatro_written){.refusal = 14});
+    expect_written("rewrite into less",
+                   fervolatro_rewrite(statement, STATEMENT_LEN, buffer,
+                                      STATEMENT_LEN - 1),
+                   (fervolatro_written){.refusal = 13});
+    expect_left("rewrite refused", buffer, ROOM, buffer, 0);
+}
+
+/* ---- Numbers of 2^32 and above, given. */
+
+/* Each is a pool's or a line's number, and one bit more. */
+static void numbers_past_the_end(const uint8_t *book, const uint8_t *statement)
+{
+    static const fervolatro_pool no_pool = {.refusal = 15};
+    static const fervolatro_entry no_line = {.refusal = 15};
+    uint64_t number;
+    int bit;
+
+    for (bit = 3; bit < 64; bit++) {
+        number = (UINT64_C(1) << bit) + POOLS - 1;
+        expect_pool("pool of a bit more",
+                    fervolatro_balance(book, BOOK_LEN, number), no_pool);
+    }
+    for (bit = 4; bit < 64; bit++) {
+        number = (UINT64_C(1) << bit) + LINES - 1;
+        expect_entry("line of a bit more",
+                     fervolatro_line(statement, STATEMENT_LEN, number), no_line);
+    }
+}
+
+/* Each differs from an account that is there in one bit. */
+static void accounts_that_are_not_there(const uint8_t *book)
+{
+    uint8_t buffer[ROOM];
+    int bit;
+
+    memset(buffer, UNTOUCHED, ROOM);
+    for (bit = 0; bit < 32; bit++) {
+        expect_written("account of another bit",
+                       fervolatro_statement(book, BOOK_LEN,
+                                            ACCOUNT ^ (UINT32_C(1) << bit),
+                                            buffer, ROOM),
+                       (fervolatro_written){.refusal = 11});
+    }
+    expect_left("account of another bit", buffer, ROOM, buffer, 0);
+}
+
+/* ---- Lengths of 2^32 and above, lent. */
+
+/* A page more than 4 GiB, of which only what is touched takes memory. */
+static const size_t MAPPED = (UINT64_C(1) << 32) + 4096;
+
+static uint8_t *map(void)
+{
+    void *mapped = mmap(NULL, MAPPED, PROT_READ | PROT_WRITE,
+                        MAP_PRIVATE | MAP_ANONYMOUS | MAP_NORESERVE, -1, 0);
+
+    return mapped == MAP_FAILED ? NULL : mapped;
+}
+
+/* The bytes begin with a book, which its counts make shorter: 4 at 0. */
+static void long_book(uint8_t *mapped, const uint8_t *book)
+{
+    const size_t len = TWO_TO_32 + BOOK_LEN;
+    uint8_t buffer[ROOM];
+
+    memcpy(mapped, book, BOOK_LEN);
+    expect_verdict("check of a long book", fervolatro_check(mapped, len),
+                   (fervolatro_verdict){.refusal = 4});
+    expect_pool("balance of a long book", fervolatro_balance(mapped, len, 0),
+                (fervolatro_pool){.refusal = 4});
+    memset(buffer, UNTOUCHED, ROOM);
+    expect_written("statement of a long book",
+                   fervolatro_statement(mapped, len, ACCOUNT, buffer, ROOM),
+                   (fervolatro_written){.refusal = 4});
+    expect_left("statement of a long book", buffer, ROOM, buffer, 0);
+}
+
+/* The bytes begin with a statement, and are longer: 14. */
+static void long_statement(uint8_t *mapped, const uint8_t *statement)
+{
+    const size_t len = TWO_TO_32 + STATEMENT_LEN;
+    uint8_t buffer[ROOM];
+
+    memcpy(mapped, statement, STATEMENT_LEN);
+    expect_heading("header of a long statement", fervolatro_header(mapped, len),
+                   (fervolatro_heading){.refusal = 14});
+    expect_entry("line of a long statement", fervolatro_line(mapped, len, 0),
+                 (fervolatro_entry){.refusal = 14});
+    memset(buffer, UNTOUCHED, ROOM);
+    expect_written("rewrite of a long statement",
+                   fervolatro_rewrite(mapped, len, buffer, ROOM),
+                   (fervolatro_written){.refusal = 14});
+    expect_left("rewrite of a long statement", buffer, ROOM, buffer, 0);
+}
+
+/* A buffer of 2^32 + 10 bytes has room for a statement; one of 10 has not. */
+static void long_buffer(uint8_t *mapped, const uint8_t *book,
+                        const uint8_t *statement)
+{
+    static const fervolatro_written whole = {.length = STATEMENT_LEN};
+    const size_t len = TWO_TO_32 + 10;
+
+    memset(mapped, UNTOUCHED, ROOM);
+    expect_written("statement into a long buffer",
+                   fervolatro_statement(book, BOOK_LEN, ACCOUNT, mapped, len),
+                   whole);
+    expect_left("statement into a long buffer", mapped, ROOM, statement,
+                STATEMENT_LEN);
+    memset(mapped, UNTOUCHED, ROOM);
+    expect_written("rewrite into a long buffer",
+                   fervolatro_rewrite(statement, STATEMENT_LEN, mapped, len),
+                   whole);
+    expect_left("rewrite into a long buffer", mapped, ROOM, statement,
+                STATEMENT_LEN);
+}
+
+static void lengths(const char *machine, const uint8_t *book,
+                    const uint8_t *statement)
+{
+    uint8_t *mapped = map();
+
+    if (mapped == NULL) {
+        perror("edge: a mapping of 4 GiB");
+        fprintf(stderr, "edge: lengths of 2^32 and above were NOT TRIED\n");
+        failures += strcmp(machine, "x86_64") == 0;
+        return;
+    }
+    long_book(mapped, book);
+    long_statement(mapped, statement);
+    long_buffer(mapped, book, statement);
+    munmap(mapped, MAPPED);
+}
+
+/* ---- What a caller's compiler leaves open. */
+
+/*
+ * An answer of more than two words is written where the caller's first, hidden
+ * parameter points (System V ABI, x86-64, 3.2.3). These are the calls with that
+ * parameter to be seen, so that the answer is written over painted memory: every
+ * byte of it has to be, and no byte beside it. A last field that is too narrow, or
+ * a field more, is seen so.
+ */
+typedef struct {
+    uint64_t before, fields[MOST_FIELDS], after;
+} painted;
+
+typedef void any_call(void);
+typedef void *read_call(void *answer, const uint8_t *bytes, size_t len);
+typedef void *numbered_call(void *answer, const uint8_t *bytes, size_t len,
+                            uint64_t number);
+typedef void *statement_call(void *answer, const uint8_t *book, size_t len,
+                             uint32_t account, uint8_t *buffer, size_t room);
+typedef void *rewrite_call(void *answer, const uint8_t *statement, size_t len,
+                           uint8_t *buffer, size_t room);
+
+static const uint64_t PAINT = UINT64_C(0xA5A5A5A5A5A5A5A5);
+
+static void *paint(painted *answer)
+{
+    memset(answer, 0xA5, sizeof *answer);
+    return answer->fields;
+}
+
+static void expect_painted(const char *name, const painted *answer,
+                           size_t fields, const void *expected)
+{
+    size_t at;
+    int differs = answer->before != PAINT || answer->after != PAINT;
+
+    expect_fields(name, fields, answer->fields, expected);
+    for (at = fields; at < MOST_FIELDS; at++) {
+        differs |= answer->fields[at] != PAINT;
+    }
+    if (differs) {
+        fprintf(stderr, "%s: bytes beside the answer were changed\n", name);
+        failures++;
+    }
+}
+
+static void painted_answers_on_a_book(const uint8_t *book)
+{
+    static const fervolatro_written whole = {.length = STATEMENT_LEN};
+    statement_call *statement_into =
+        (statement_call *)(any_call *)fervolatro_statement;
+    numbered_call *balance_into =
+        (numbered_call *)(any_call *)fervolatro_balance;
+    uint8_t buffer[ROOM];
+    painted answer;
+
+    statement_into(paint(&answer), book, BOOK_LEN, ACCOUNT, buffer, ROOM);
+    expect_painted("statement, painted", &answer, WRITTEN_FIELDS, &whole);
+    balance_into(paint(&answer), book, BOOK_LEN, 0);
+    expect_painted("balance, painted", &answer, POOL_FIELDS, &POOL[0]);
+}
+
+static void painted_answers_on_a_statement(const uint8_t *statement)
+{
+    static const fervolatro_written whole = {.length = STATEMENT_LEN};
+    read_call *header_into = (read_call *)(any_call *)fervolatro_header;
+    numbered_call *line_into = (numbered_call *)(any_call *)fervolatro_line;
+    rewrite_call *rewrite_into =
+        (rewrite_call *)(any_call *)fervolatro_rewrite;
+    uint8_t buffer[ROOM];
+    painted answer;
+
+    header_into(paint(&answer), statement, STATEMENT_LEN);
+    expect_painted("header, painted", &answer, HEADING_FIELDS, &HEADING);
+    line_into(paint(&answer), statement, STATEMENT_LEN, 1);
+    expect_painted("line, painted", &answer, ENTRY_FIELDS, &LINE[1]);
+    rewrite_into(paint(&answer), statement, STATEMENT_LEN, buffer, ROOM);
+    expect_painted("rewrite, painted", &answer, WRITTEN_FIELDS, &whole);
+}
+
+/* An account has 32 bits, and the upper half of the register that it comes in may
+ * hold anything (the same section of the ABI). */
+typedef fervolatro_written wide_account_call(const uint8_t *book, size_t len,
+                                             uint64_t account, uint8_t *buffer,
+                                             size_t room);
+
+static void account_in_a_wide_register(const uint8_t *book)
+{
+    wide_account_call *statement_of =
+        (wide_account_call *)(any_call *)fervolatro_statement;
+    uint8_t buffer[ROOM];
+
+    expect_written("account in a wide register",
+                   statement_of(book, BOOK_LEN,
+                                UINT64_C(0xA5A5A5A500000000) + ACCOUNT, buffer,
+                                ROOM),
+                   (fervolatro_written){.length = STATEMENT_LEN});
+}
+
+int main(int argc, char **argv)
+{
+    uint8_t book[BOOK_LEN], statement[STATEMENT_LEN];
+
+    if (argc != 2) {
+        fprintf(stderr, "usage: %s MACHINE\n", argv[0]);
+        return 2;
+    }
+    make_book(book);
+    make_statement(statement);
+
+    expect_distinct("the heading", HEADING_FIELDS, &HEADING);
+    expect_distinct("the unit's first line", ENTRY_FIELDS, &LINE[1]);
+    expect_distinct("the first pool", POOL_FIELDS, &POOL[0]);
+    good_calls_on_the_book(book, statement);
+    good_calls_on_the_statement(statement);
+    refused_calls_on_a_book();
+    refused_calls_on_a_statement(statement);
+    numbers_past_the_end(book, statement);
+    accounts_that_are_not_there(book);
+    painted_answers_on_a_book(book);
+    painted_answers_on_a_statement(statement);
+    account_in_a_wide_register(book);
+    lengths(argv[1], book, statement);
+
+    return failures == 0 ? EXIT_SUCCESS : EXIT_FAILURE;
+}
