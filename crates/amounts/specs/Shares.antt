@@ -1,5 +1,5 @@
 -- A rounded part of a pool. A number with a sign is held as what is credited less what is charged, of which one is 0; rounding keeps the
--- sign, so each side is rounded by its size (proofs/Signed.antt has the law over signed numbers).
+-- sign, so each side is rounded by its size (the crate guide has the laws over signed numbers).
 use Prim.Native.Nat.{ℕ, _*_}
 use lib.IntN.{ℤ}
 use Rattle.ground.specs.Round.{roundN}
