@@ -9,12 +9,19 @@ use lib.ListN.{length, length-append}
 use Rattle.ground.specs.Put.{Wrote}
 use Rattle.ground.specs.Sign.{negative}
 use Rattle.ground.proofs.Put.{wrote-none, wrote-length}
-use Rattle.decimal.specs.Decimal.{inRow, decimalOf, lastDigits, namedText, minusText, dollarsOf}
+use Rattle.decimal.specs.Decimal.{inRow, decimalOf, lastDigits, minusText, dollarsOf}
 use Rattle.decimal.proofs.Spelling.{last-length}
 
 -- there is room for pieces from place k of l on
 pub record Space (l : List ℕ) (k : ℕ) (pieces : List (List ℕ)) : Type 0 where
   pub fits : k + length (inRow pieces) ≤ length l
+
+pub space : (pieces : List (List ℕ)) (l : List ℕ) (k : ℕ) → k + length (inRow pieces) ≤ length l → Space l k pieces
+space pieces l k h = record { fits = h }
+
+-- at the front
+pub space-front : (pieces : List (List ℕ)) (l : List ℕ) → length (inRow pieces) ≤ length l → Space l 0 pieces
+space-front pieces l h = record { fits = omega arith }
 
 module _ {l : List ℕ} {k : ℕ} {x : List ℕ} where
   pub space-first : {ps : List (List ℕ)} → Space l k (x ∷ ps) → k + length x ≤ length l
@@ -23,9 +30,6 @@ module _ {l : List ℕ} {k : ℕ} {x : List ℕ} where
 
   pub space-rest : {y : List ℕ} {ps : List (List ℕ)} {a : List ℕ} {m : ℕ} → Space l k (x ∷ y ∷ ps) → Wrote l k x a m → Space a m (y ∷ ps)
   space-rest s w = record { fits = omega (arith, rw length-append at (s .fits), wrote-length w) }
-
-pub named-space : (word : List ℕ) (x : ℕ) (l : List ℕ) (k : ℕ) → k + length (namedText word x) ≤ length l → Space l k (word ∷ decimalOf x ∷ [])
-named-space word x l k h = record { fits = h }
 
 -- ---- a minus, or nothing
 
