@@ -1,5 +1,5 @@
 -- Room for what is written, piece behind piece, and what an amount's pieces are. Assumes nothing.
-use Prim.Native.Nat.{ℕ, _+_, _/_, _≤_}
+use Prim.Native.Nat.{ℕ, _+_, _/_, _^_, _≤_, _<_}
 use mathlib.Core.Path.{_≡_}
 use mathlib.Core.Bool.{Bool, true, false}
 use mathlib.Core.List.{List, [], _∷_, _++_}
@@ -10,7 +10,7 @@ use Rattle.ground.specs.Put.{Wrote}
 use Rattle.ground.specs.Sign.{negative}
 use Rattle.ground.proofs.Put.{wrote-none, wrote-length}
 use Rattle.decimal.specs.Decimal.{inRow, decimalOf, lastDigits, minusText, dollarsOf}
-use Rattle.decimal.proofs.Spelling.{last-length}
+use Rattle.decimal.proofs.Spelling.{few-digits, last-length}
 
 -- there is room for pieces from place k of l on
 pub record Space (l : List ℕ) (k : ℕ) (pieces : List (List ℕ)) : Type 0 where
@@ -61,3 +61,15 @@ module _ (z : ℤ) {n : ℕ} {t : Bool} (e : n ≡ natAbs z) (q : t ≡ negative
 
   pub wrote-dollars : {l : List ℕ} {k : ℕ} {b : List ℕ} {m : ℕ} → Wrote l k (inRow (amountPieces t n)) b m → Wrote l k (dollarsOf z) b m
   wrote-dollars w = rw dollars-are w
+
+-- ---- how long an amount is
+
+minus-short : (t : Bool) → length (minusText t) ≤ 1
+minus-short true = omega arith
+minus-short false = omega arith
+
+pub dollars-short : (z : ℤ) → natAbs z < 2 ^ 64 → length (dollarsOf z) ≤ 22
+unfolding dollarsOf
+dollars-short z h =
+    simp length-append
+    (omega (arith, minus-short (negative z), few-digits 15 (natAbs z / 10000) (omega arith), last-length 4 (natAbs z)))

@@ -50,14 +50,15 @@ some-digit =
     (λ x h. rw (one-digit x h) (omega arith))
     (λ x h p. rw (more-digits x h, length-append) (omega arith))
 
+tenth-below : (x n : ℕ) → x < 10 ^ suc (suc n) → x / 10 < 10 ^ suc n
+tenth-below x n h = div-lt-iff-lt-mul {k = 10} {x = x} {y = 10 ^ suc n} (omega arith) .1 (rw pow-suc at h)
+
 -- a number below 10 ^ (n + 1) has at most n + 1
 pub few-digits : (n x : ℕ) → x < 10 ^ suc n → length (decimalOf x) ≤ suc n
 few-digits zero x h = rw (one-digit x (omega (arith, rw pow-suc at h))) (omega arith)
 few-digits (suc n) x h =
     ⊎-elim (λ l. rw (one-digit x l) (omega arith))
-    (λ l.
-    let q : x / 10 < 10 ^ suc n = div-lt-iff-lt-mul {k = 10} {x = x} {y = 10 ^ suc n} (omega arith) .1 (rw pow-suc at h) in
-    rw (more-digits x l, length-append) (omega (arith, few-digits n (x / 10) q)))
+    (λ l. rw (more-digits x l, length-append) (omega (arith, few-digits n (x / 10) (tenth-below x n h))))
     (lt-or-ge x 10)
 
 -- the loop that counts digits: n are counted, and rest is what is left above all of them but one

@@ -2,8 +2,9 @@
 use mathlib.Core.Path.{_∙_}
 use borrow.Author.Needs.{needs}
 use Rattle.ground.proofs.Put.{wrote-more, wrote-length}
-use Rattle.decimal.proofs.Rooms.{space-front, space-first, space-rest}
-use Rattle.text.specs.Listing.{refusalPieces, refusalText}
+use Rattle.decimal.proofs.Rooms.{space-first, space-rest}
+use Rattle.text.specs.Listing.{refusalText}
+use Rattle.text.proofs.Lengths.{refusal-space, said-refusal}
 use Rattle.text.proofs.put_refusal.Statement.{statement}
 use Rattle.text.proofs.put_refusal.Tie as tie
 
@@ -14,7 +15,7 @@ put-named-requires : tie.Need-put-named-requires
 unfolding refusalText
 put-named-requires c κs =
     let start = c .before .before .before in
-    space-first (space-front (refusalPieces (start .args .number) (start .args .place)) (start .args .text .now) (start .pre))
+    space-first (refusal-space (start .args .number) (start .args .place) (start .fits .number .fits) (start .fits .place .fits) (start .args .text .now) (start .pre))
 
 slice-aggregate-put-named-2 : tie.Need-slice-aggregate-put-named-2
 slice-aggregate-put-named-2 c = search needs
@@ -24,7 +25,7 @@ unfolding refusalText
 put-named-requires-2 c κs =
     let number = c .before .before .before .before in
     let start = number .before .before .before .before in
-    space-first (space-rest (space-front (refusalPieces (start .args .number) (start .args .place)) (start .args .text .now) (start .pre)) (number .put-named .ensures))
+    space-first (space-rest (refusal-space (start .args .number) (start .args .place) (start .fits .number .fits) (start .fits .place .fits) (start .args .text .now) (start .pre)) (number .put-named .ensures))
 
 put-byte-requires : tie.Need-put-byte-requires
 unfolding refusalText
@@ -32,7 +33,7 @@ put-byte-requires c κs =
     let place = c .before .before .before in
     let number = place .before .before .before .before .before in
     let start = number .before .before .before .before in
-    space-first (space-rest (space-rest (space-front (refusalPieces (start .args .number) (start .args .place)) (start .args .text .now) (start .pre)) (number .put-named .ensures)) (place .put-named2 .ensures))
+    space-first (space-rest (space-rest (refusal-space (start .args .number) (start .args .place) (start .fits .number .fits) (start .fits .place .fits) (start .args .text .now) (start .pre)) (number .put-named .ensures)) (place .put-named2 .ensures))
 
 same-length : tie.Need-same-length
 same-length c =
@@ -47,7 +48,9 @@ returns c =
     let feed = c .before .before in
     let place = feed .before .before .before .before in
     let number = place .before .before .before .before .before in
-    wrote-more (number .put-named .ensures) (wrote-more (place .put-named2 .ensures) (feed .put-byte .ensures))
+    let start = number .before .before .before .before in
+    said-refusal (start .args .number) (start .args .place) (start .fits .number .fits) (start .fits .place .fits) (start .args .text .now) (start .pre)
+    (wrote-more (number .put-named .ensures) (wrote-more (place .put-named2 .ensures) (feed .put-byte .ensures)))
 
 pub put-refusal-spec : {M : Type 1} → statement M
 put-refusal-spec =
