@@ -20,8 +20,7 @@ put-lines-requires : tie.Need-put-lines-requires
 put-lines-requires c κs =
     let header = c .before .before .before in
     let heading = header .before .before .before in
-    let start = heading .before .before .before in
-    (
+    let start = heading .before .before .before in (
       lines-lie _ (start .pre .0) (λ i. heading .before .shared-slice-known .given i .fits) _ (heading .heading-at .ensures) (start .args .text .now) (start .pre .1),
       lines-room _ (start .pre .0) (λ i. heading .before .shared-slice-known .given i .fits) _ (heading .heading-at .ensures) (start .args .text .now) (start .pre .1) (header .put-heading .ensures),
     )
