@@ -1,0 +1,4 @@
+pub mod Lengths
+pub mod Turns
+pub mod Ends
+pub mod OwnLines
