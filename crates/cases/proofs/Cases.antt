@@ -1,6 +1,6 @@
 -- Every case of the table holds: each definition computes to what the document says. Assumes nothing.
 use mathlib.Core.Path.{refl}
-use Rattle.ground.specs.Le.{le16, le32, le64, int32, int64}
+use Rattle.ground.specs.Le.{le16, le32, le64, int64}
 use Rattle.ground.specs.Sizes.{plusOf, minusOf}
 use Rattle.sections.specs.Total.{total}
 use Rattle.records.specs.Rows.{entryRow, constraintRow, unitRow, energyRow}
@@ -13,6 +13,7 @@ use Rattle.accounts.specs.Rows.{rowsOf, keep, sumOf, concatMap}
 use Rattle.accounts.specs.Account.{publicOf, rowsOfAccount, ownEnergy}
 use Rattle.lines.specs.Lines.{unitLines, restLines}
 use Rattle.settlement.specs.Settle.{entryIn, ofConstraint, constraintLines, linesOf}
+use Rattle.cases.specs.Written.{int32}
 use Rattle.cases.specs.Cases.{table, AllHold}
 
 -- one `refl` for each row, in the table's order

@@ -2,7 +2,13 @@
 use Prim.Native.Nat.{ℕ}
 use mathlib.Core.List.{List, [], _∷_, _++_}
 use lib.IntN.{ℤ}
-use Rattle.ground.specs.Le.{le16, le32, int32, int64}
+use mir.Syntax.{w32}
+use mir.Val.{ofZ}
+use Rattle.ground.specs.Le.{le16, le32, int64}
+
+-- a number with a sign in 32 bits, two's complement
+unfoldable pub int32 : ℤ → List ℕ
+int32 z = le32 (ofZ w32 z)
 
 -- "the three letters RCB; reserved byte; 16-bit version 1; interval; date; run; counts of constraints, unit rows, energy rows, contracts; reserved u16"
 abbrev pub heading : ℕ → ℕ → ℕ → ℕ → ℕ → ℕ → ℕ → List ℕ

@@ -35,13 +35,13 @@ use Rattle.trips.proofs.Call.{passed}
 use Rattle.trips.proofs.Trip.{written-and-read}
 use Rattle.guide.specs.Guide.{guideLines}
 use Rattle.guide.proofs.Guide.{every-line-is-the-guides}
-use Rattle.guide.proofs.Checks.{check-8-is-the-guides, check-9-is-the-guides}
+use Rattle.guide.proofs.Checks.{check-5-is-the-guides, check-8-is-the-guides, check-9-is-the-guides}
 use Rattle.fervolatro.specs.Answers.{verdictAnswer, headingAnswer, entryAnswer, poolAnswer}
 use Rattle.fervolatro.specs.declared.VerdictAnswer.{VerdictAnswer}
 use Rattle.fervolatro.specs.declared.WrittenAnswer.{WrittenAnswer}
 use Rattle.fervolatro.specs.declared.PoolAnswer.{PoolAnswer}
 use Rattle.demands.specs.Demand1.{OneOf, Gives, Answered, written, short, refused, onAStatement, onRewriting}
-use Rattle.demands.specs.Demand2.{SumsAreTheGuides, guideStatement, numbered, front, StatementIsTheGuides, PoolCloses, EveryLineIsTheGuides}
+use Rattle.demands.specs.Demand2.{NumbersAreTheGuides, guideStatement, numbered, front, StatementIsTheGuides, PoolCloses, EveryLineIsTheGuides}
 use Rattle.demands.proofs.Numbers.{verdict-numbers}
 use Rattle.demands.proofs.Numbered.{line-numbered}
 use Rattle.demands.proofs.Demand1.{every-input-is-answered}
@@ -69,9 +69,9 @@ front-is xs l r x g = rw (g .answer, g .bytes) (put-there l 0 xs (omega (arith, 
 -- ---- the book
 
 -- an accepted book passed checks 5, 8 and 9
-sums-of : (b : List ℕ) → AreBytes b → verdict b ≡ Accepted → SumsAreTheGuides b
+numbers-of : (b : List ℕ) → AreBytes b → verdict b ≡ Accepted → NumbersAreTheGuides b
 unfolding verdict check8 check9
-sums-of b bytes v =
+numbers-of b bytes v =
     let c1 = first-held _ _ v in
     let c2 = first-held _ _ (c1 .rest) in
     let c3 = first-held _ _ (c2 .rest) in
@@ -82,14 +82,15 @@ sums-of b bytes v =
     let c8 = first-held (check8 (bookOf b)) _ (c7 .rest) in
     let c9 = first-held (check9 (bookOf b)) _ (c8 .rest) in
     record {
+      ranges = check-5-is-the-guides b bytes;
       factors = λ j l. check-8-is-the-guides b bytes (c5 .here) j l .0 (first-each _ _ (record-held _ _ _ _ (c8 .here)) j l);
       energies = λ g l. check-9-is-the-guides b bytes (c5 .here) g l .0 (first-each _ _ (record-held _ _ _ _ (c9 .here)) g l);
     }
 
-book-sums : (b : List ℕ) → AreBytes b → (v : Verdict) → verdict b ≡ v → (r : VerdictAnswer) → r ≡ verdictAnswer v → r .refusal ≡ 0 → SumsAreTheGuides b
+book-numbers : (b : List ℕ) → AreBytes b → (v : Verdict) → verdict b ≡ v → (r : VerdictAnswer) → r ≡ verdictAnswer v → r .refusal ≡ 0 → NumbersAreTheGuides b
 unfolding verdictAnswer has
-book-sums b bytes Accepted v r a z = sums-of b bytes v
-book-sums b bytes (Refused k place) v r a z = never (rw (sym (ap (λ (w : VerdictAnswer). w .refusal) a) ∙ z) at (verdict-numbers b k place v))
+book-numbers b bytes Accepted v r a z = numbers-of b bytes v
+book-numbers b bytes (Refused k place) v r a z = never (rw (sym (ap (λ (w : VerdictAnswer). w .refusal) a) ∙ z) at (verdict-numbers b k place v))
 
 -- ---- the statement
 
@@ -171,7 +172,7 @@ pub every-line-and-pool-is-the-guides : EveryLineIsTheGuides
 unfolding balanceOf balancesIn has
 every-line-and-pool-is-the-guides =
     record {
-      check = λ b bytes r a z. book-sums b bytes (verdict b) refl r a z;
+      check = λ b bytes r a z. book-numbers b bytes (verdict b) refl r a z;
       statement = λ b bytes account small l r x c z.
           statement-is-the-guides b bytes account small l r x (given onAStatement (outcome b account) l r x never (every-input-is-answered .statement b account l r x c) z);
       balance = λ b bytes number r a z. balance-closes b bytes number (verdict b) refl (poolAt (poolsIn (publicOf (bookOf b))) number) refl r a z;

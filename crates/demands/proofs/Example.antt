@@ -8,7 +8,7 @@ use mathlib.Core.List.{List, [], _∷_, _++_}
 use native.Mathlib.Omega.{arith}
 use lib.IntN.{ℤ}
 use lib.ListN.{length}
-use Rattle.ground.specs.Le.{le16, le32, le64, int32, int64}
+use Rattle.ground.specs.Le.{le16, le32, le64, int64}
 use Rattle.ground.specs.Sizes.{plusOf, minusOf}
 use Rattle.sections.specs.First.{andThen, firstBad}
 use Rattle.sections.specs.Order.{risesBy}
@@ -34,6 +34,7 @@ use Rattle.statement.specs.declared.Line.{Line}
 use Rattle.lines.specs.Lines.{unitLines, restLines}
 use Rattle.settlement.specs.Settle.{entryIn, ofConstraint, constraintLines, regionLines, contractLines, linesOf}
 use Rattle.cases.specs.Cases.{plus, minus}
+use Rattle.cases.specs.Written.{int32}
 use Rattle.cases.specs.Written as written
 use Rattle.demands.specs.Demand3.{Agree}
 

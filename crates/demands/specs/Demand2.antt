@@ -25,7 +25,7 @@ use Rattle.balance.specs.Pools.{Pool, found, poolsIn, poolAt, inPool}
 use Rattle.balance.specs.Balance.{sumZ, accountsOf, balanceOf}
 use Rattle.guide.specs.Signed.{signedBook}
 use Rattle.guide.specs.Guide.{guideLines}
-use Rattle.guide.specs.Checks.{FactorSums, EntrySums}
+use Rattle.guide.specs.Checks.{RangesAgree, FactorSums, EntrySums}
 use Rattle.fervolatro.specs.Answers.{verdictAnswer, headingAnswer, entryAnswer, poolAnswer, Called}
 use Rattle.fervolatro.specs.declared.VerdictAnswer.{VerdictAnswer}
 use Rattle.fervolatro.specs.declared.WrittenAnswer.{WrittenAnswer}
@@ -79,15 +79,17 @@ pub record PoolCloses (b : List ℕ) (number : ℕ) (r : PoolAnswer) : Type 0 wh
 
 -- ---- the book
 
--- the sums of checks 8 and 9, as the papers print them: factors of each constraint with its units', energies of each region with its rows'
-pub record SumsAreTheGuides (b : List ℕ) : Type 0 where
+-- the numbers of an accepted book are the papers': check 5's ranges are those of the signed numbers, and checks 8 and 9 are the papers' sums, of the
+-- factors of each constraint with its units', and of the energies of each region with its rows'
+pub record NumbersAreTheGuides (b : List ℕ) : Type 0 where
+  pub ranges : RangesAgree (bookOf b) (signedBook b)
   pub factors : (j : ℕ) → j < headerOf b .constraints → FactorSums (signedBook b) (signedBook b .constraint j)
   pub energies : (g : ℕ) → g < 5 → EntrySums (signedBook b) g
 
 -- ---- the demand, of what the calls promise where they do not refuse
 
 pub record EveryLineIsTheGuides : Type 0 where
-  pub check : (b : List ℕ) → AreBytes b → (r : VerdictAnswer) → r ≡ verdictAnswer (verdict b) → r .refusal ≡ 0 → SumsAreTheGuides b
+  pub check : (b : List ℕ) → AreBytes b → (r : VerdictAnswer) → r ≡ verdictAnswer (verdict b) → r .refusal ≡ 0 → NumbersAreTheGuides b
   pub statement : (b : List ℕ) → AreBytes b → (account : ℕ) → account < 2 ^ 32 → (l : List ℕ) (r : WrittenAnswer) (x : List ℕ) → Called (outcome b account) l r x → r .refusal ≡ 0 → StatementIsTheGuides b account l r x
   pub balance : (b : List ℕ) → AreBytes b → (number : ℕ) (r : PoolAnswer) → r ≡ poolAnswer (balanceOf b number) → r .refusal ≡ 0 → PoolCloses b number r
   -- "read and written, the same bytes"

@@ -4,7 +4,7 @@ ghost use mathlib.Core.Path.{_≡_};
 ghost use Rattle.rewriting.specs.Rewriting.{rewritten};
 ghost use Rattle.settlement.specs.Settle.{outcome};
 ghost use Rattle.demands.specs.Demand1.{CheckAnswered, PoolAnswered, HeadingAnswered, EntryAnswered, Gives, Answered, onAStatement, onRewriting};
-ghost use Rattle.demands.specs.Demand2.{SumsAreTheGuides, StatementIsTheGuides, PoolCloses};
+ghost use Rattle.demands.specs.Demand2.{NumbersAreTheGuides, StatementIsTheGuides, PoolCloses};
 ghost use Rattle.demands.specs.Demand3.{Agree, Same};
 use fervolatro::EntryAnswer;
 use fervolatro::HeadingAnswer;
@@ -14,7 +14,7 @@ use fervolatro::WrittenAnswer;
 
 pub fn check(book: &[u8]) -> VerdictAnswer
     ensures { λ r. ⌜ CheckAnswered (now (book .entry)) r ⌝ }
-    ensures { λ r. ⌜ (r .refusal ≡ 0 → SumsAreTheGuides (now (book .entry))) ⌝ }
+    ensures { λ r. ⌜ (r .refusal ≡ 0 → NumbersAreTheGuides (now (book .entry))) ⌝ }
 {
     fervolatro::fervolatro_check(book)
 }
