@@ -1,11 +1,17 @@
--- Each way in which a call that writes a statement ends; o is what the definition gives. Assumes nothing.
+-- Each way in which a call that writes a statement ends, and what an answered length says; o is what the definition gives. Assumes nothing.
 use Prim.Native.Nat.{ℕ, _≤_, _<_}
-use mathlib.Core.Path.{_≡_, ap}
+use mathlib.Core.Path.{_≡_, refl, sym, ap}
+use mathlib.Core.Bool.{Bool, true, false, cond}
 use mathlib.Core.List.{List}
-use borrow.Author.Tests.{le-leb, lt-leb}
+use native.Mathlib.Omega.{arith}
+use borrow.Author.Tests.{le-leb, lt-leb, leb-true}
+use lib.Dec.{leb}
 use lib.ListN.{length}
+use Rattle.ground.specs.Bytes.{part}
 use Rattle.ground.specs.Put.{put}
+use Rattle.ground.proofs.Put.{put-there}
 use Rattle.statement.specs.Lent.{Outcome, refuses, gives, answerFor, leftIn, Lent}
+use Rattle.statement.specs.declared.Written.{Written}
 use Rattle.statement.specs.declared.Written.the-variants.{Length, Refused}
 
 pub lent-refused : (number place : ℕ) (o : Outcome) (l : List ℕ) → o ≡ refuses number place → Lent o l (Refused number place) l
@@ -25,3 +31,18 @@ module _ (o : Outcome) (xs : List ℕ) (given : o ≡ gives xs) (l : List ℕ) w
   lent-written n q h e =
       let f = le-leb (length xs) (length l) h in
       record { answer = rw (given, f) (ap Length q); left = rw (given, f) e }
+
+not-refused : (n number place : ℕ) → Length n ≡ Refused number place → ⊥
+not-refused n number place e = let z : _≡_ {A = ℕ} 0 1 = cc in omega arith
+
+-- where a length is answered, the definition gives just the bytes that stand at the front
+pub lent-front : (o : Outcome) (l : List ℕ) (n : ℕ) (b : List ℕ) → Lent o l (Length n) b → o ≡ gives (part b 0 n)
+unfolding answerFor leftIn
+lent-front (refuses number place) l n b h = absurd (not-refused n number place (h .answer))
+lent-front (gives xs) l n b h = by (leb (length xs) (length l)) refl (h .answer) (h .left)
+  where
+    by : (t : Bool) → leb (length xs) (length l) ≡ t → Length n ≡ cond t (Length (length xs)) (Refused 13 0) → b ≡ cond t (put l 0 xs) l → gives xs ≡ gives (part b 0 n)
+    by true t e f =
+        let same : n ≡ length xs = cc in
+        ap gives (rw (f, same) (sym (put-there l 0 xs (omega (arith, leb-true (length xs) (length l) t)))))
+    by false t e f = absurd (not-refused n 13 0 e)
