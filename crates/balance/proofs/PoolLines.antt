@@ -30,11 +30,11 @@ use Rattle.amounts.specs.declared.pools.Residual.{Residual}
 use Rattle.accounts.specs.Account.{publicOf, rowsOfAccount}
 use Rattle.parties.specs.Parties.{shareIn}
 use Rattle.statement.specs.declared.Line.{Line}
-use Rattle.lines.specs.Lines.{contingencyLine, unitLines, restLines}
-use Rattle.settlement.specs.Settle.{regionLines, linesOf}
-use Rattle.settlement.specs.Walks.{ownLines, unitLinesAt, conLines, conLinesAt, contractLinesAt, bookLines}
+use Rattle.lines.specs.Lines.{contingencyLine, unitLines, restLines, regionLines}
+use Rattle.settlement.specs.Settle.{linesOf}
+use Rattle.walk.specs.Walks.{ownLines, unitLinesAt, conLines, conLinesAt, contractLinesAt, bookLines}
 use Rattle.settlement.proofs.Link.{lines-link}
-use Rattle.settlement.proofs.Given.{rises-once}
+use Rattle.count.proofs.Counting.{rises-once}
 use Rattle.balance.specs.Pools.{Pool, constraintPool, contractPool, hasPart, inPool}
 use Rattle.balance.specs.Shapes.{belongs, plusBy, minusBy, poolBy, creditBy, chargeBy, partOf, consumedPart, sentPart}
 use Rattle.balance.specs.declared.kinds.Kind.{Kind}

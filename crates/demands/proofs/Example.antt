@@ -31,8 +31,8 @@ use Rattle.amounts.specs.Shares.{byEnergy, byFactor}
 use Rattle.accounts.specs.Rows.{rowsOf, keep, sumOf, concatMap, joined}
 use Rattle.accounts.specs.Account.{publicOf, rowsOfAccount, ownEnergy}
 use Rattle.statement.specs.declared.Line.{Line}
-use Rattle.lines.specs.Lines.{unitLines, restLines}
-use Rattle.settlement.specs.Settle.{entryIn, ofConstraint, constraintLines, regionLines, contractLines, linesOf}
+use Rattle.lines.specs.Lines.{unitLines, restLines, regionLines}
+use Rattle.settlement.specs.Settle.{entryIn, ofConstraint, constraintLines, contractLines, linesOf}
 use Rattle.cases.specs.Cases.{plus, minus}
 use Rattle.cases.specs.Written.{int32}
 use Rattle.cases.specs.Written as written

@@ -22,8 +22,8 @@ use Rattle.totals.specs.Divisors.{basisOf, shareOf, divisorOf}
 use Rattle.amounts.specs.Pools.{allUnused, poolsIn, poolsOf, residualOf, halve, halvesOf}
 use Rattle.amounts.specs.declared.pools.Pools.{Pools}
 use Rattle.statement.specs.declared.Line.{Line}
-use Rattle.lines.specs.Lines.{sharedLine, contingencyLine, unusedLine, unitLines, unusedRest, restLines}
-use Rattle.settlement.specs.Settle.{ofConstraint, regionLines}
+use Rattle.lines.specs.Lines.{sharedLine, contingencyLine, unusedLine, unitLines, unusedRest, restLines, regionLines}
+use Rattle.settlement.specs.Settle.{ofConstraint}
 use Rattle.guide.specs.Numbers.{round, million}
 use Rattle.guide.specs.Signed.{Energies, SignedConstraint, SignedUnit, SignedContract}
 use Rattle.guide.specs.Guide as guide

@@ -6,8 +6,12 @@ use mathlib.Core.Bool.{cond}
 use mathlib.Core.List.{List, [], _∷_}
 use lib.Dec.{eqb}
 use Rattle.market.specs.Kinds.{raises}
+use Rattle.records.specs.Rules.{factorOf}
+use Rattle.records.specs.declared.rows.Entry.{Entry}
 use Rattle.records.specs.declared.rows.Constraint.{Constraint}
 use Rattle.records.specs.declared.rows.UnitRow.{UnitRow}
+use Rattle.records.specs.declared.rows.Contract.{Contract}
+use Rattle.amounts.specs.Pools.{halvesOf}
 use Rattle.amounts.specs.Shares.{byFactor, byEnergy}
 use Rattle.amounts.specs.declared.pools.Pools.{Pools}
 use Rattle.amounts.specs.declared.pools.Residual.{Residual}
@@ -73,3 +77,11 @@ unitLines r p q = cond (eqb (r .mode) 1) (fppLine r p q ∷ usedLine r p q ∷ u
 -- "then 6, 7, 8 (mode 2 only 8)"
 unfoldable pub restLines : Constraint → Residual → ℕ → ℕ → List Line
 restLines r x te ate = cond (eqb (r .mode) 1) (fppRest r x te ate ∷ usedRest r x te ate ∷ unusedRest r x te ate ∷ []) (unusedRest r x te ate ∷ [])
+
+-- a contract's lines in region g: "each region with a benefit factor above 0"
+unfoldable pub regionLines : (ℕ → Entry) → (ℕ → Entry) → Contract → ℕ → List Line
+regionLines entry own k g =
+    cond (eqb (factorOf (k .factors) g) 0) []
+    (aceLine (k .id) g (halvesOf (k .payment) (factorOf (k .factors) g)) (own g .ace) (entry g .ace)
+    ∷ asoeLine (k .id) g (halvesOf (k .payment) (factorOf (k .factors) g)) (own g .asoe) (entry g .asoe)
+    ∷ [])

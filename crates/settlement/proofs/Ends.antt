@@ -33,14 +33,15 @@ use Rattle.statement.proofs.Lent.{lent-refused}
 use Rattle.statement.proofs.Lines.{statement-length}
 use Rattle.lines.specs.Limit.{anyOver}
 use Rattle.settlement.specs.Settle.{linesOf, headingOf, statementOf, settled, ifAccepted, outcome}
-use Rattle.settlement.specs.Walks.{conLinesAt, contractLinesAt, bookLines, wholeOf, Fits, Owned}
-use Rattle.settlement.specs.Counts.{BookCounted}
+use Rattle.walk.specs.Walks.{conLinesAt, contractLinesAt, bookLines}
+use Rattle.settlement.specs.Owned.{wholeOf, Fits, Owned}
+use Rattle.count.specs.Counts.{BookCounted}
 use Rattle.settlement.specs.Limits.{bookOver}
 use Rattle.settlement.proofs.Whole.{settled-unknown, settled-over, lent-short, lent-written}
 use Rattle.settlement.proofs.UnderLimit.{over-is}
 use Rattle.settlement.proofs.Link.{lines-link}
 use Rattle.settlement.proofs.Given.{ready-of, payable-of}
-use Rattle.settlement.proofs.LineCount.{few-lines, few-pays}
+use Rattle.count.proofs.LineCount.{few-lines, few-pays}
 
 -- ---- the tests that come before the first byte is written
 

@@ -1,13 +1,10 @@
 -- What an accepted book gives to the walk over it, where the account's own energy is part of each region's. Assumes nothing.
 use Prim.Native.Nat.{ℕ, _≤_, _<_}
-use mathlib.Core.Path.{_≡_, sym, ap, _∙_}
+use mathlib.Core.Path.{_≡_, ap, _∙_}
 use mathlib.Core.Bool.{Bool, true, false, cond}
-use mathlib.Core.Logic.{⊎-elim}
 use native.Mathlib.Omega.{arith}
-use native.Mathlib.Nat.{le-trans, eq-or-lt-of-le}
-use Rattle.sections.specs.Order.{Rises}
+use native.Mathlib.Nat.{le-trans}
 use Rattle.sections.proofs.Total.{total-bound, total-under}
-use Rattle.sections.proofs.Search.{lt-or-ge}
 use Rattle.market.specs.Kinds.{raises, regulates, bitSet}
 use Rattle.records.specs.Facts.{EntryRule}
 use Rattle.records.specs.declared.rows.Entry.{Entry}
@@ -21,21 +18,9 @@ use Rattle.totals.proofs.Turns.{share-small}
 use Rattle.book.specs.Book.{Book}
 use Rattle.book.specs.Accepted.{Within, Promise}
 use Rattle.lines.specs.Lines.{Shared}
-use Rattle.settlement.specs.Walks.{Ready, Payable}
-use Rattle.settlement.specs.Counts.{Countable}
-
--- ---- order
-
--- numbers that rise are each at one place only
-pub rises-once : (f : ℕ → ℕ) (n : ℕ) → Rises f n → (i j : ℕ) → i < n → j < n → f i ≡ f j → i ≡ j
-rises-once f n r i j a b e =
-    ⊎-elim
-    (λ (l : i < j). absurd (apart (f i) (f j) (r .rise i j l b) e))
-    (λ (l : j ≤ i). ⊎-elim (λ (q : j ≡ i). sym q) (λ (k : j < i). absurd (apart (f j) (f i) (r .rise j i k a) (sym e))) (eq-or-lt-of-le l))
-    (lt-or-ge i j)
-  where
-    apart : (x y : ℕ) → x < y → x ≡ y → ⊥
-    apart x y l q = omega arith
+use Rattle.walk.specs.Walks.{Ready, Payable}
+use Rattle.count.specs.Counts.{Countable}
+use Rattle.count.proofs.Counting.{rises-once}
 
 -- ---- an account's energy in a region
 

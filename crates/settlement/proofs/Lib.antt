@@ -1,12 +1,6 @@
-pub mod UnitRuns
-pub mod OneConstraint
-pub mod Loops
-pub mod AllLines
-pub mod Counting
 pub mod EachLine
 pub mod UnderLimit
 pub mod Link
 pub mod Whole
-pub mod LineCount
 pub mod Given
 pub mod Ends

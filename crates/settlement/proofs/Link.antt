@@ -20,9 +20,9 @@ use Rattle.accounts.specs.Account.{publicOf, rowsOfAccount, ownEnergy}
 use Rattle.accounts.proofs.Joined.{joined-same}
 use Rattle.accounts.proofs.Lists.{joined-rows, joined-keep}
 use Rattle.statement.specs.declared.Line.{Line}
-use Rattle.lines.specs.Lines.{unitLines}
-use Rattle.settlement.specs.Settle.{entryIn, ofConstraint, constraintLines, regionLines, contractLines, linesOf}
-use Rattle.settlement.specs.Walks.{ownLines, unitLinesAt, conLines, conLinesAt, contractLinesAt, bookLines}
+use Rattle.lines.specs.Lines.{unitLines, regionLines}
+use Rattle.settlement.specs.Settle.{entryIn, ofConstraint, constraintLines, contractLines, linesOf}
+use Rattle.walk.specs.Walks.{ownLines, unitLinesAt, conLines, conLinesAt, contractLinesAt, bookLines}
 
 -- ---- the five entries
 

@@ -20,7 +20,8 @@ use Rattle.statement.proofs.Lent as lent
 use Rattle.lines.specs.Emitted.{Emitted}
 use Rattle.lines.specs.Limit.{anyOver}
 use Rattle.settlement.specs.Settle.{linesOf, headingOf, statementOf, settled}
-use Rattle.settlement.specs.Walks.{bookLines, wholeOf}
+use Rattle.walk.specs.Walks.{bookLines}
+use Rattle.settlement.specs.Owned.{wholeOf}
 
 -- ---- written
 

@@ -1,4 +1,3 @@
 pub mod Settle
-pub mod Walks
-pub mod Counts
+pub mod Owned
 pub mod Limits

@@ -6,7 +6,6 @@ use lib.Dec.{eqb}
 use lib.ListN.{length}
 use Rattle.sections.specs.declared.Verdict.{Verdict}
 use Rattle.sections.specs.declared.Verdict.the-variants.{Accepted, Refused}
-use Rattle.records.specs.Rules.{factorOf}
 use Rattle.records.specs.declared.rows.Entry.{Entry}
 use Rattle.records.specs.declared.rows.Constraint.{Constraint}
 use Rattle.records.specs.declared.rows.UnitRow.{UnitRow}
@@ -14,14 +13,14 @@ use Rattle.records.specs.declared.rows.Contract.{Contract}
 use Rattle.totals.specs.Divisors.{divisorOf}
 use Rattle.book.specs.Book.{bookOf}
 use Rattle.book.specs.Table.{verdict}
-use Rattle.amounts.specs.Pools.{poolsOf, residualOf, halvesOf}
+use Rattle.amounts.specs.Pools.{poolsOf, residualOf}
 use Rattle.accounts.specs.Rows.{joined, concatMap}
 use Rattle.accounts.specs.Account.{Public, Rows, publicOf, rowsOfAccount, ownEnergy, unknown}
 use Rattle.statement.specs.Statement.{statementBytes}
 use Rattle.statement.specs.Lent.{Outcome, refuses, gives}
 use Rattle.statement.specs.declared.Heading.{Heading}
 use Rattle.statement.specs.declared.Line.{Line}
-use Rattle.lines.specs.Lines.{contingencyLine, unitLines, restLines, aceLine, asoeLine}
+use Rattle.lines.specs.Lines.{contingencyLine, unitLines, restLines, regionLines}
 use Rattle.lines.specs.Limit.{anyOver}
 
 -- ---- lines; total and own are a region's and the account's energy, by region
@@ -41,14 +40,6 @@ unfoldable pub constraintLines : (ℕ → Entry) → (ℕ → Entry) → List Un
 constraintLines total own units r =
     cond (eqb (r .mode) 0) (contingencyLine r (divisorOf own r) (divisorOf total r) ∷ [])
     (concatMap (ofConstraint r) units ++ restLines r (residualOf r (poolsOf r)) (divisorOf own r) (divisorOf total r))
-
--- a contract's lines in region g: "each region with a benefit factor above 0"
-unfoldable pub regionLines : (ℕ → Entry) → (ℕ → Entry) → Contract → ℕ → List Line
-regionLines entry own k g =
-    cond (eqb (factorOf (k .factors) g) 0) []
-    (aceLine (k .id) g (halvesOf (k .payment) (factorOf (k .factors) g)) (own g .ace) (entry g .ace)
-    ∷ asoeLine (k .id) g (halvesOf (k .payment) (factorOf (k .factors) g)) (own g .asoe) (entry g .asoe)
-    ∷ [])
 
 -- "Then contracts, each benefiting region rising, 9 then 10."
 unfoldable pub contractLines : (ℕ → Entry) → (ℕ → Entry) → Contract → List Line

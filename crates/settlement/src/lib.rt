@@ -1,7 +1,4 @@
 // The statement of an account: its lines in order, and the header before them.
-mod units; // units.rt: an account's lines of one constraint
-mod walk; // walk.rt: all lines of an account, in order
-mod count; // count.rt: how many they are
 mod limit; // limit.rt: whether one would pass the limit
 
 ghost use mathlib.Core.Path.{_≡_};
@@ -19,7 +16,8 @@ ghost use Rattle.accounts.specs.Account.{publicOf, rowsOfAccount};
 ghost use Rattle.statement.specs.Lent.{Lent};
 ghost use Rattle.totals.specs.declared.entries.Totals.{Totals};
 ghost use Rattle.settlement.specs.Settle.{settled, outcome};
-ghost use Rattle.settlement.specs.Walks.{bookLines, wholeOf, Walkable, Fits, Owned};
+ghost use Rattle.walk.specs.Walks.{bookLines, Walkable};
+ghost use Rattle.settlement.specs.Owned.{wholeOf, Fits, Owned};
 use book::header;
 use book::header::Header;
 use sections::Verdict;

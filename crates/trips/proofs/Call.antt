@@ -29,7 +29,7 @@ use Rattle.accounts.proofs.Lists.{some-rows}
 use Rattle.statement.specs.Lent.{Outcome, refuses, gives}
 use Rattle.lines.specs.Limit.{anyOver}
 use Rattle.settlement.specs.Settle.{linesOf, statementOf, settled, ifAccepted, outcome}
-use Rattle.settlement.specs.Walks.{Owned}
+use Rattle.settlement.specs.Owned.{Owned}
 use Rattle.settlement.proofs.Ends.{own-of}
 use Rattle.trips.proofs.Due.{Narrow}
 

@@ -1,0 +1,224 @@
+-- Lines counted without being made: a unit row's, a run's, a constraint's, a contract's, and all. Assumes nothing.
+use Prim.Native.Nat.{ℕ, zero, suc, _+_, _≤_, _<_}
+use mathlib.Core.Path.{_≡_, refl, sym, ap, ap₂, _∙_}
+use mathlib.Core.Bool.{Bool, true, false, cond}
+use mathlib.Core.List.{List, []}
+use mathlib.Core.Logic.{_⊎_, inl, inr, ⊎-elim}
+use borrow.Author.Tests.{eq-eqb, ne-eqb}
+use lib.Dec.{eqb}
+use lib.ListN.{length, length-append}
+use native.Mathlib.Omega.{arith}
+use native.Mathlib.Nat.{eq-or-lt-of-le}
+use Rattle.ground.specs.Bytes.{partFrom}
+use Rattle.sections.specs.Order.{Rises}
+use Rattle.sections.specs.Total.{total, keyed}
+use Rattle.sections.specs.Walk.{Under, Sought}
+use Rattle.sections.proofs.Walk.{under-later}
+use Rattle.sections.proofs.Total.{total-none, total-more, total-all, total-zero, total-same, total-plus, total-swap, total-only, total-five, keyed-hit, keyed-miss}
+use Rattle.sections.proofs.Search.{lt-or-ge}
+use Rattle.records.specs.Rules.{factorOf}
+use Rattle.records.specs.Rows.{entryRow, constraintRow, unitRow, contractRow}
+use Rattle.records.specs.declared.rows.Entry.{Entry}
+use Rattle.records.specs.declared.rows.Constraint.{Constraint}
+use Rattle.records.specs.declared.rows.UnitRow.{UnitRow}
+use Rattle.records.specs.declared.rows.Contract.{Contract}
+use Rattle.factors.specs.Naming.{idOf, keyOf}
+use Rattle.totals.specs.Totals.{entryOf}
+use Rattle.totals.specs.declared.entries.Totals.{Totals}
+use Rattle.amounts.specs.Pools.{poolsOf, residualOf}
+use Rattle.amounts.specs.declared.pools.Residual.{Residual}
+use Rattle.accounts.specs.Rows.{joined}
+use Rattle.accounts.proofs.Joined.{joined-none, joined-more, joined-all, joined-length}
+use Rattle.book.specs.Book.{bookIn}
+use Rattle.book.specs.Header.{unitsFrom, contractsFrom}
+use Rattle.book.specs.declared.header.Header.{Header}
+use Rattle.lines.specs.Lines.{unitLines, restLines, regionLines}
+use Rattle.walk.specs.Walks.{ownLines, unitLinesAt, conLines, conLinesAt, contractLinesAt, bookLines}
+use Rattle.count.specs.Counts.{eachOf, countIn, rowCount, UnitsCounted, BareOf, Countable, MetAt, ConstraintsCounted, ContractCounted, ContractsCounted, BookCounted}
+use Rattle.count.specs.declared.Met.{Met}
+
+-- ---- order
+
+-- numbers that rise are each at one place only
+pub rises-once : (f : ℕ → ℕ) (n : ℕ) → Rises f n → (i j : ℕ) → i < n → j < n → f i ≡ f j → i ≡ j
+rises-once f n r i j a b e =
+    ⊎-elim
+    (λ (l : i < j). absurd (apart (f i) (f j) (r .rise i j l b) e))
+    (λ (l : j ≤ i). ⊎-elim (λ (q : j ≡ i). sym q) (λ (k : j < i). absurd (apart (f j) (f i) (r .rise j i k a) (sym e))) (eq-or-lt-of-le l))
+    (lt-or-ge i j)
+  where
+    apart : (x y : ℕ) → x < y → x ≡ y → ⊥
+    apart x y l q = omega arith
+
+-- ---- lists
+
+-- whichever of two lists is taken, so long it is
+choice-length : {A : Type 0} (t : Bool) (xs ys : List A) → length (cond t xs ys) ≡ cond t (length xs) (length ys)
+choice-length true xs ys = refl
+choice-length false xs ys = refl
+
+is-zero : (n : ℕ) → (n ≡ 0) ⊎ (n ≡ 0 → ⊥)
+is-zero zero = inl refl
+is-zero (suc n) = inr (λ (e : suc n ≡ 0). omega arith)
+
+-- ---- a unit row
+
+module _ (unit : ℕ → UnitRow) (account : ℕ) (r : Constraint) (u : ℕ) where
+  miss : (keyOf unit u ≡ r .id → ⊥) → countIn unit account r u ≡ 0
+  unfolding countIn
+  miss d = keyed-miss (keyOf unit) (r .id) _ u d
+
+  hit : keyOf unit u ≡ r .id → unit u .account ≡ account → countIn unit account r u ≡ eachOf r
+  unfolding countIn
+  hit e a = sym (keyed-hit (keyOf unit) (r .id) _ u e) ∙ rw (eq-eqb _ _ a)
+
+  other : (unit u .account ≡ account → ⊥) → countIn unit account r u ≡ 0
+  unfolding countIn keyed
+  other d = rw (ne-eqb _ _ d) (nothing (eqb (keyOf unit u) (r .id)))
+    where
+      nothing : (t : Bool) → _≡_ {A = ℕ} (cond t 0 0) 0
+      nothing true = refl
+      nothing false = refl
+
+  row-length : length (unitLinesAt unit account r (poolsOf r) u) ≡ countIn unit account r u
+  unfolding unitLinesAt ownLines unitLines countIn keyed eachOf
+  row-length =
+      choice-length (eqb (keyOf unit u) (r .id)) _ []
+      ∙ ap (λ (x : ℕ). cond (eqb (keyOf unit u) (r .id)) x 0)
+      (choice-length (eqb (unit u .account) account) _ [] ∙ ap (λ (x : ℕ). cond (eqb (unit u .account) account) x 0) (choice-length (eqb (r .mode) 1) _ _))
+
+-- ---- a constraint
+
+module _ (unit : ℕ → UnitRow) (m account : ℕ) (r : Constraint) where
+  rows-length : length (joined (unitLinesAt unit account r (poolsOf r)) m) ≡ total (countIn unit account r) m
+  rows-length = joined-length (unitLinesAt unit account r (poolsOf r)) m ∙ total-same _ _ m (λ u l. row-length unit account r u)
+
+  rest-length : (x : Residual) (o t : ℕ) → length (restLines r x o t) ≡ eachOf r
+  unfolding restLines eachOf
+  rest-length x o t = choice-length (eqb (r .mode) 1) _ _
+
+  single : r .mode ≡ 0 → 1 ≡ eachOf r
+  unfolding eachOf
+  single z = rw (ne-eqb (r .mode) 1 (λ (q : r .mode ≡ 1). omega arith))
+
+  con-length : BareOf unit m r → (o t : ℕ) → length (conLines unit m account r o t) ≡ total (countIn unit account r) m + eachOf r
+  unfolding conLines
+  con-length bare o t =
+      ⊎-elim
+      (λ (z : r .mode ≡ 0). rw (eq-eqb _ _ z) (ap₂ _+_ (total-zero (countIn unit account r) m (λ u l. miss unit account r u (bare z u l))) (single z)))
+      (λ (d : r .mode ≡ 0 → ⊥). rw (ne-eqb _ _ d, length-append) (ap₂ _+_ rows-length (rest-length (residualOf r (poolsOf r)) o t)))
+      (is-zero (r .mode))
+
+-- ---- all constraints
+
+module _ (con : ℕ → Constraint) (n : ℕ) (unit : ℕ → UnitRow) (m account : ℕ) where
+  units-none : UnitsCounted con n unit account 0 0
+  units-none = record { lines = total-none _; few = omega arith }
+
+  pub met-start : MetAt con n unit m account 0 (record { cursor = 0; lines = 0 })
+  met-start = record { high = omega arith; under = λ v a b j l. omega arith; counted = units-none }
+
+  units-skip : (u : ℕ) {x : ℕ} {q : UnitRow} → UnitsCounted con n unit account u x → q ≡ unit u → (q .account ≡ account → ⊥) → UnitsCounted con n unit account (u + 1) x
+  unfolding rowCount
+  units-skip u {x} h e d =
+      let row = total-zero (λ j. countIn unit account (con j) u) n (λ j l. other unit account (con j) u (rw e at d)) in
+      let more = total-more (rowCount con n unit account) u (h .lines) row in
+      record { lines = omega (arith, more); few = omega (arith, h .few) }
+
+  pub units-all : (u k : ℕ) {x : ℕ} → u ≤ k → k ≤ u → UnitsCounted con n unit account u x → UnitsCounted con n unit account k x
+  units-all u k a b h = record { lines = total-all _ u k (h .lines) (omega arith); few = omega (arith, h .few) }
+
+  module _ (h : Countable con n unit m) where
+    -- a key's place among the ids is that of the constraint that it names
+    pub named-at : (u c : ℕ) → u < m → Sought (idOf con) n (keyOf unit u) c → (c < n) × (con c .id ≡ keyOf unit u)
+    named-at u c l s =
+        let p = h .names .place u l in
+        let w = h .names .within u l in
+        let e = h .names .same u l in
+        let a : c ≤ p = ⊎-elim (λ (b : p < c). omega (arith, s .under p b, e)) (λ (b : c ≤ p). b) (lt-or-ge p c) in
+        let b : c < n = omega arith in
+        (b, ⊎-elim (λ (q : c ≡ p). rw q e) (λ (q : c < p). omega (arith, h .rise .rise c p q w, s .over b, e)) (eq-or-lt-of-le a))
+
+    units-own : (u c : ℕ) {x y : ℕ} {q : UnitRow} {r : Constraint} → u < m → UnitsCounted con n unit account u x → q ≡ unit u → q .account ≡ account → Sought (idOf con) n (keyOf unit u) c → r ≡ con c → y ≡ eachOf r → y ≤ 3 → UnitsCounted con n unit account (u + 1) (x + y)
+    unfolding rowCount
+    units-own u c {x} {y} l k e a s f g z =
+        let at-c = named-at u c l s in
+        let apart : (j : ℕ) → j < n → (j ≡ c → ⊥) → countIn unit account (con j) u ≡ 0 = λ j b d. miss unit account (con j) u (λ (q : keyOf unit u ≡ con j .id). d (rises-once (idOf con) n (h .rise) j c b (at-c .0) (sym q ∙ sym (at-c .1)))) in
+        let row : y ≡ rowCount con n unit account u = g ∙ ap eachOf f ∙ sym (hit unit account (con c) u (sym (at-c .1)) (rw e at a)) ∙ sym (total-only (λ j. countIn unit account (con j) u) c n (at-c .0) apart) in
+        record { lines = total-more (rowCount con n unit account) u (k .lines) row; few = omega (arith, k .few) }
+
+    pub met-skip : (u : ℕ) {x : Met} {q : UnitRow} → MetAt con n unit m account u x → q ≡ unit u → (q .account ≡ account → ⊥) → MetAt con n unit m account (u + 1) x
+    met-skip u k e d = record { high = k .high; under = λ v a b. k .under v (omega arith) b; counted = units-skip u (k .counted) e d }
+
+    pub met-under : (u : ℕ) {x : Met} {q : UnitRow} → u < m → MetAt con n unit m account u x → q ≡ unit u → Under (idOf con) (x .cursor) (q .constraint)
+    met-under u l k e = rw e (k .under u (omega arith) l)
+
+    pub met-own : (u c : ℕ) {x : Met} {y : ℕ} {q : UnitRow} {r : Constraint} → u < m → MetAt con n unit m account u x → q ≡ unit u → q .account ≡ account → Sought (idOf con) n (q .constraint) c → r ≡ con c → y ≡ eachOf r → y ≤ 3 → MetAt con n unit m account (u + 1) (record { cursor = c; lines = x .lines + y })
+    met-own u c l k e a s f g z =
+        let t : Sought (idOf con) n (keyOf unit u) c = rw e at s in
+        record {
+          high = t .high;
+          under = λ v b d. under-later (idOf con) c (keyOf unit u) (keyOf unit v) (t .under) (h .walked .keep .keep u v (omega arith) d);
+          counted = units-own u c l (k .counted) e a t f g z;
+        }
+
+    pub constraints-counted : {x y : ℕ} → UnitsCounted con n unit account m x → y ≡ total (λ j. eachOf (con j)) n → y ≤ 192 → ConstraintsCounted con n unit m account (x + y)
+    unfolding rowCount conLinesAt
+    constraints-counted {x} {y} k e l =
+        record {
+          lines = λ entry own. sym (joined-length (conLinesAt entry con unit m account own) n
+              ∙ total-same _ (λ j. total (countIn unit account (con j)) m + eachOf (con j)) n (λ j b. con-length unit m account (con j) (h .bare j b) _ _)
+              ∙ total-plus (λ j. total (countIn unit account (con j)) m) (λ j. eachOf (con j)) n
+              ∙ ap₂ _+_ (total-swap (λ j u. countIn unit account (con j) u) m n ∙ sym (k .lines)) (sym e));
+          few = omega (arith, k .few, h .walked .few);
+        }
+
+-- ---- a contract, and all
+
+region-length : (entry own : ℕ → Entry) (k : Contract) (g : ℕ) {x : ℕ} → x ≡ cond (eqb (factorOf (k .factors) g) 0) 0 2 → x ≡ length (regionLines entry own k g)
+unfolding regionLines
+region-length entry own k g e = e ∙ sym (choice-length (eqb (factorOf (k .factors) g) 0) _ _)
+
+pub contract-counted : (k : Contract) {a b c d e : ℕ} → a ≡ cond (eqb (factorOf (k .factors) 0) 0) 0 2 → b ≡ cond (eqb (factorOf (k .factors) 1) 0) 0 2 → c ≡ cond (eqb (factorOf (k .factors) 2) 0) 0 2 → d ≡ cond (eqb (factorOf (k .factors) 3) 0) 0 2 → e ≡ cond (eqb (factorOf (k .factors) 4) 0) 0 2 → a + b + c + d + e ≤ 10 → ContractCounted k (a + b + c + d + e)
+contract-counted k p q r s t l =
+    record {
+      lines = λ entry own. (
+          let five = joined-length (regionLines entry own k) 5 ∙ total-five (λ g. length (regionLines entry own k g)) in
+          omega (arith, five, region-length entry own k 0 p, region-length entry own k 1 q, region-length entry own k 2 r, region-length entry own k 3 s, region-length entry own k 4 t)
+          );
+      few = l;
+    }
+
+module _ (contract : ℕ → Contract) where
+  pub contracts-none : ContractsCounted contract 0 0
+  contracts-none = record { lines = λ entry own. rw (joined-none (contractLinesAt entry own contract)); few = omega arith }
+
+  pub contracts-more : (i : ℕ) {x y : ℕ} {k : Contract} → ContractsCounted contract i x → k ≡ contract i → ContractCounted k y → ContractsCounted contract (i + 1) (x + y)
+  unfolding contractLinesAt
+  contracts-more i {x} {y} h e c =
+      record {
+        lines = λ entry own. (
+            let both = length-append (joined (contractLinesAt entry own contract) i) (contractLinesAt entry own contract i) in
+            let row : y ≡ length (contractLinesAt entry own contract i) = rw e at (c .lines entry own) in
+            rw (← joined-more (contractLinesAt entry own contract) i) (omega (arith, h .lines entry own, row, both))
+            );
+        few = omega (arith, h .few, c .few);
+      }
+
+  pub contracts-all : (i n : ℕ) {x : ℕ} → i ≤ n → n ≤ i → ContractsCounted contract i x → ContractsCounted contract n x
+  contracts-all i n a b h =
+      record { lines = λ entry own. h .lines entry own ∙ ap length (joined-all (contractLinesAt entry own contract) i n a b); few = omega (arith, h .few) }
+
+-- ---- a book; u and k are where the unit rows and the contracts start
+
+module _ (b : List ℕ) (h : Header) (account u : ℕ) (e : u ≡ unitsFrom h) where
+  pub countable-at : Countable (bookIn b h .constraint) (h .constraints) (bookIn b h .unit) (h .units) → Countable (constraintRow (partFrom 84 b)) (h .constraints) (unitRow (partFrom u b)) (h .units)
+  countable-at c = rw e c
+
+  pub book-counted : (k : ℕ) {x y : ℕ} → k ≡ contractsFrom h → h .constraints ≤ 64 → h .contracts ≤ 16 → ConstraintsCounted (constraintRow (partFrom 84 b)) (h .constraints) (unitRow (partFrom u b)) (h .units) account x → ContractsCounted (contractRow (partFrom k b)) (h .contracts) y → BookCounted (bookIn b h) account (x + y)
+  unfolding bookLines
+  book-counted k f m n c d =
+      record {
+        lines = λ own. rw length-append (ap₂ _+_ (rw e at (c .lines (entryRow (partFrom 24 b)) own)) (rw f at (d .lines (entryRow (partFrom 24 b)) (entryOf own))));
+        few = omega (arith, c .few, d .few);
+      }

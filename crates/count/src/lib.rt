@@ -1,0 +1,138 @@
+// How many lines an account has, without making one: its unit rows are told by their accounts, and the mode says how many lines each has.
+ghost use mathlib.Core.Path.{_≡_};
+ghost use mathlib.Core.Bool.{cond};
+ghost use Prim.Native.Nat.{_+_, _*_, _≤_, _<_};
+ghost use lib.Dec.{eqb};
+ghost use lib.ListN.{length};
+ghost use Rattle.sections.specs.Total.{total};
+ghost use Rattle.records.specs.Rows.{constraintRow, unitRow, contractRow};
+ghost use Rattle.book.specs.Book.{bookIn};
+ghost use Rattle.book.specs.Facts.{Laid};
+ghost use Rattle.count.specs.Counts.{eachOf, UnitsCounted, Countable, MetAt, ConstraintsCounted, ContractCounted, ContractsCounted, BookCounted};
+use book::header::Header;
+use factors::naming;
+use market::Mode;
+use records::rows;
+use records::rows::Constraint;
+use records::rows::Contract;
+
+// How many lines a unit row of the constraint has, and how many its residual.
+fn lines_each(r: Constraint) -> usize
+    ensures { λ x. ⌜ (x ≡ eachOf r) × (x ≤ 3) ⌝ }
+{
+    if r.mode == Mode::FACTORED { 3 } else { 1 }
+}
+
+// Where a search among the constraints stands, and how many lines there are so far.
+pub struct Met {
+    pub cursor: usize,
+    pub lines: usize,
+}
+
+// Unit row u with its lines, where the account owns it. The constraint that it names is looked for from the last one on, since rows and
+// constraints stand in the same order.
+fn with_row(cons: &[u8], n: usize, units: &[u8], m: usize, u: usize, met: Met, account: u32) -> Met
+    requires { ⌜ (n * 40 ≤ length (now cons)) × ((m * 20 ≤ length (now units)) × (u < m)) ⌝ }
+    requires { ⌜ Countable (constraintRow (now cons)) n (unitRow (now units)) m ⌝ }
+    requires { ⌜ MetAt (constraintRow (now cons)) n (unitRow (now units)) m account u met ⌝ }
+    ensures { λ x. ⌜ MetAt (constraintRow (now (cons .entry))) n (unitRow (now (units .entry))) m account (u + 1) x ⌝ }
+{
+    let q = rows::unit_row(units, u);
+    if q.account != account {
+        return met;
+    }
+    let cursor = naming::seek(cons, n, met.cursor, q.constraint);
+    let lines = met.lines + lines_each(rows::constraint_row(cons, cursor));
+    Met { cursor, lines }
+}
+
+// The lines of the account's unit rows.
+fn unit_lines(cons: &[u8], n: usize, units: &[u8], m: usize, account: u32) -> usize
+    requires { ⌜ (n * 40 ≤ length (now cons)) × (m * 20 ≤ length (now units)) ⌝ }
+    requires { ⌜ Countable (constraintRow (now cons)) n (unitRow (now units)) m ⌝ }
+    ensures { λ x. ⌜ UnitsCounted (constraintRow (now (cons .entry))) n (unitRow (now (units .entry))) account m x ⌝ }
+{
+    let mut met = Met {
+        cursor: 0,
+        lines: 0,
+    };
+    let mut u = 0;
+    while u < m {
+        met = with_row(cons, n, units, m, u, met, account);
+        u += 1;
+    }
+    met.lines
+}
+
+// The lines that the n constraints have besides: a residual's, or the one of mode 0.
+fn other_lines(cons: &[u8], n: usize) -> usize
+    requires { ⌜ (n * 40 ≤ length (now cons)) × (n ≤ 64) ⌝ }
+    ensures { λ x. ⌜ (x ≡ total (λ j. eachOf (constraintRow (now (cons .entry)) j)) n) × (x ≤ 192) ⌝ }
+{
+    let mut lines = 0;
+    let mut j = 0;
+    while j < n {
+        lines += lines_each(rows::constraint_row(cons, j));
+        j += 1;
+    }
+    lines
+}
+
+// The lines of the n constraints.
+fn constraints(cons: &[u8], n: usize, units: &[u8], m: usize, account: u32) -> usize
+    requires { ⌜ (n * 40 ≤ length (now cons)) × (m * 20 ≤ length (now units)) ⌝ }
+    requires { ⌜ Countable (constraintRow (now cons)) n (unitRow (now units)) m ⌝ }
+    ensures { λ x. ⌜ ConstraintsCounted (constraintRow (now (cons .entry))) n (unitRow (now (units .entry))) m account x ⌝ }
+{
+    unit_lines(cons, n, units, m, account) + other_lines(cons, n)
+}
+
+// Two lines in a region that a contract benefits.
+fn region_count(factor: u32) -> usize
+    ensures { λ x. ⌜ (x ≡ cond (eqb factor 0) 0 2) × (x ≤ 2) ⌝ }
+{
+    if factor == 0 { 0 } else { 2 }
+}
+
+fn contract_count(k: Contract) -> usize
+    ensures { λ x. ⌜ ContractCounted k x ⌝ }
+{
+    let f = k.factors;
+    region_count(f[0])
+        + region_count(f[1])
+        + region_count(f[2])
+        + region_count(f[3])
+        + region_count(f[4])
+}
+
+// The lines of the n contracts.
+fn contracts(contracts: &[u8], n: usize) -> usize
+    requires { ⌜ (n * 36 ≤ length (now contracts)) × (n ≤ 16) ⌝ }
+    ensures { λ x. ⌜ ContractsCounted (contractRow (now (contracts .entry))) n x ⌝ }
+{
+    let mut lines = 0;
+    let mut i = 0;
+    while i < n {
+        lines += contract_count(rows::contract_row(contracts, i));
+        i += 1;
+    }
+    lines
+}
+
+// All lines of the account.
+pub fn all_lines(book: &[u8], h: Header, account: u32) -> usize
+    requires { ⌜ Laid (now book) h ⌝ }
+    requires { ⌜ Countable (bookIn (now book) h .constraint) (h .constraints) (bookIn (now book) h .unit) (h .units) ⌝ }
+    ensures { λ x. ⌜ BookCounted (bookIn (now (book .entry)) h) account x ⌝ }
+{
+    let units = h.units_at();
+    let paid = h.contracts_at();
+    let of_constraints = constraints(
+        &book[84..],
+        h.constraints as usize,
+        &book[units..],
+        h.units as usize,
+        account,
+    );
+    of_constraints + contracts(&book[paid..], h.contracts as usize)
+}

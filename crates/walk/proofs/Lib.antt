@@ -1,0 +1,4 @@
+pub mod UnitRuns
+pub mod OneConstraint
+pub mod Loops
+pub mod AllLines

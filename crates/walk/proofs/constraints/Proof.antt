@@ -1,0 +1,69 @@
+-- `walk::constraints` meets its contract. The invariant: the lines of the constraints so far are out, and the cursor stands at the first row of the next one, since each row names a constraint and the ids rise. The measure is what is left. Assumes nothing.
+use Prim.Native.Nat.{_≤_, _<_, _-_}
+use native.Mathlib.Omega.{arith}
+use borrow.Author.Needs.{needs}
+use Rattle.totals.proofs.Turns.{totals-rule, divisor-read}
+use Rattle.walk.proofs.Loops.{out-start, out-room, out-more, out-all, settles-at, con-room, con-out}
+use Rattle.walk.specs.Walks.{conLinesAt}
+use Rattle.lines.proofs.Emission.{emitted-length}
+use Rattle.lines.specs.Emitted.{Emitted}
+use Rattle.accounts.specs.Rows.{joined}
+use Rattle.factors.specs.Naming.{idOf, keyOf}
+use Rattle.records.specs.Rows.{entryRow, constraintRow, unitRow}
+use Rattle.sections.proofs.Walk.{stands-first, stands-next}
+use Rattle.sections.specs.Walk.{Stands}
+use Rattle.walk.proofs.constraints.Statement.{statement}
+use Rattle.walk.proofs.constraints.Tie as tie
+
+abbrev Inv-loop : tie.InvT-loop
+Inv-loop buf₀ place regions cons n units m own account all end₀ at₀ j₀ buf end at j = (j ≤ n) × (Emitted buf₀ place (joined (conLinesAt (entryRow regions) (constraintRow cons) (unitRow units) m account own) j) buf end × (j < n → Stands (keyOf (unitRow units)) m (idOf (constraintRow cons) j) at))
+
+abbrev μ-loop : tie.MeasureT-loop
+μ-loop buf₀ place regions cons n units m own account all end₀ at₀ j₀ buf end at j = n - j
+
+totals-of-requires : tie.Need-totals-of-requires Inv-loop μ-loop
+totals-of-requires c κs = search needs
+
+loop-holds : tie.Need-loop-holds Inv-loop μ-loop
+loop-holds c = (omega arith, (out-start _, λ l. stands-first _ _ _ _ (c .before .before .before .before .before .pre .1 .0 .rise) (c .before .before .before .before .before .pre .1 .0 .names) l))
+
+constraint-row-requires : tie.Need-constraint-row-requires Inv-loop μ-loop
+constraint-row-requires c κs = omega arith
+
+over-regions-requires : tie.Need-over-regions-requires Inv-loop μ-loop
+over-regions-requires c κs = totals-rule (c .before .before .before .totals-of .result) _ (c .before .before .before .totals-of .ensures) (c .before .before .before .before .before .before .before .before .pre .1 .0 .entries)
+
+constraint-lines-requires : tie.Need-constraint-lines-requires Inv-loop μ-loop
+constraint-lines-requires c κs = (c .before .before .before .before .before .before .before .before .before .before .pre .0 .1 .1, (c .before .before .before .before .before .before .before .before .before .before .pre .1 .0 .walked, (rw (c .before .before .constraint-row .ensures) (c .before .before .before .before .loop .inv .1 .1 (c .before .before .before .loop-test .taken)), (settles-at _ _ _ _ _ (c .before .before .before .before .before .before .before .before .before .before .args .account) _ _ (c .before .before .constraint-row .ensures) (divisor-read (c .before .before .before .before .before .totals-of .result) _ (c .before .before .before .before .before .totals-of .ensures) _ (c .before .over-regions .ensures)) (c .before .before .before .before .before .before .before .before .before .before .pre .1 .0) (c .before .before .before .loop-test .taken), con-room _ _ (c .before .before .before .before .before .before .before .before .before .before .args .n) _ _ _ _ _ (c .before .before .constraint-row .ensures) (divisor-read (c .before .before .before .before .before .totals-of .result) _ (c .before .before .before .before .before .totals-of .ensures) _ (c .before .over-regions .ensures)) (out-room _ _ (c .before .before .before .before .loop .inv .1 .0) _ (c .before .before .before .loop-test .taken) (c .before .before .before .before .before .before .before .before .before .before .pre .1 .1))))))
+
+add-j : tie.Need-add-j Inv-loop μ-loop
+add-j c = omega arith
+
+loop-less : tie.Need-loop-less Inv-loop μ-loop
+loop-less c = omega arith
+
+loop-again : tie.Need-loop-again Inv-loop μ-loop
+loop-again c = (omega arith, (out-more _ _ (c .before .before .before .before .before .before .before .loop .inv .1 .0) (con-out _ _ (c .before .before .before .before .before .before .before .before .before .before .before .before .before .args .n) _ _ _ _ _ (c .before .before .before .before .before .constraint-row .ensures) (divisor-read (c .before .before .before .before .before .before .before .before .totals-of .result) _ (c .before .before .before .before .before .before .before .before .totals-of .ensures) _ (c .before .before .before .before .over-regions .ensures)) (c .before .before .constraint-lines .ensures)), λ l. stands-next _ _ _ _ (c .before .before .before .before .before .before .before .before .before .before .before .before .before .pre .1 .0 .rise) (c .before .before .before .before .before .before .before .before .before .before .before .before .before .pre .1 .0 .names) _ _ (rw (c .before .before .before .before .before .constraint-row .ensures) at (c .before .before .constraint-lines .ensures .past)) l))
+
+same-length : tie.Need-same-length Inv-loop μ-loop
+same-length c = emitted-length _ (c .before .loop .inv .1 .0)
+
+returns : tie.Need-returns Inv-loop μ-loop
+returns c = out-all _ _ (c .before .loop .inv .1 .0) _ (c .before .loop .inv .0) (c .loop-test .left)
+
+pub constraints-spec : {M : Type 1} → statement M
+constraints-spec =
+    tie.close
+    (tie.spec
+    Inv-loop
+    μ-loop
+    totals-of-requires
+    loop-holds
+    constraint-row-requires
+    over-regions-requires
+    constraint-lines-requires
+    add-j
+    loop-less
+    loop-again
+    same-length
+    returns)

@@ -1,0 +1,57 @@
+-- `walk::contracts` meets its contract. The invariant: the lines of the contracts so far are out. The measure is what is left. Assumes nothing.
+use Prim.Native.Nat.{_≤_, _-_}
+use native.Mathlib.Omega.{arith}
+use Rattle.walk.proofs.Loops.{out-start, out-room, out-more, out-all, contract-room, contract-out}
+use Rattle.walk.specs.Walks.{contractLinesAt}
+use Rattle.records.specs.Rows.{entryRow, contractRow}
+use Rattle.totals.specs.Totals.{entryOf}
+use Rattle.lines.proofs.Emission.{emitted-length}
+use Rattle.lines.specs.Emitted.{Emitted}
+use Rattle.accounts.specs.Rows.{joined}
+use Rattle.walk.proofs.contracts.Statement.{statement}
+use Rattle.walk.proofs.contracts.Tie as tie
+
+abbrev Inv-loop : tie.InvT-loop
+Inv-loop buf₀ place regions contracts n own end₀ i₀ buf end i = (i ≤ n) × Emitted buf₀ place (joined (contractLinesAt (entryRow regions) (entryOf own) (contractRow contracts)) i) buf end
+
+abbrev μ-loop : tie.MeasureT-loop
+μ-loop buf₀ place regions contracts n own end₀ i₀ buf end i = n - i
+
+loop-holds : tie.Need-loop-holds Inv-loop μ-loop
+loop-holds c = (omega arith, out-start _)
+
+contract-row-requires : tie.Need-contract-row-requires Inv-loop μ-loop
+contract-row-requires c κs = omega arith
+
+contract-lines-requires : tie.Need-contract-lines-requires Inv-loop μ-loop
+contract-lines-requires c κs = (c .before .before .before .before .before .before .before .pre .0 .0, (rw (c .before .contract-row .ensures) (c .before .before .before .before .before .before .before .pre .1 .0 _ (c .before .before .loop-test .taken)), contract-room _ _ _ _ (c .before .contract-row .ensures) (out-room _ _ (c .before .before .before .loop .inv .1) _ (c .before .before .loop-test .taken) (c .before .before .before .before .before .before .before .pre .1 .1))))
+
+add-i : tie.Need-add-i Inv-loop μ-loop
+add-i c = omega arith
+
+loop-less : tie.Need-loop-less Inv-loop μ-loop
+loop-less c = omega arith
+
+loop-again : tie.Need-loop-again Inv-loop μ-loop
+loop-again c = (omega arith, out-more _ _ (c .before .before .before .before .before .before .loop .inv .1) (contract-out _ _ _ _ (c .before .before .before .before .contract-row .ensures) (c .before .before .contract-lines .ensures)))
+
+same-length : tie.Need-same-length Inv-loop μ-loop
+same-length c = emitted-length _ (c .before .loop .inv .1)
+
+returns : tie.Need-returns Inv-loop μ-loop
+returns c = out-all _ _ (c .before .loop .inv .1) _ (c .before .loop .inv .0) (c .loop-test .left)
+
+pub contracts-spec : {M : Type 1} → statement M
+contracts-spec =
+    tie.close
+    (tie.spec
+    Inv-loop
+    μ-loop
+    loop-holds
+    contract-row-requires
+    contract-lines-requires
+    add-i
+    loop-less
+    loop-again
+    same-length
+    returns)

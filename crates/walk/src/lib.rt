@@ -1,0 +1,150 @@
+// All lines of an account, made and written in one walk, in the statement's order: constraint by constraint, then contract by contract.
+mod units; // units.rt: an account's lines of one constraint
+
+ghost use Prim.Native.Nat.{ℕ, _*_, _≤_, _<_};
+ghost use lib.ListN.{length};
+ghost use Rattle.records.specs.Rows.{entryRow, constraintRow, unitRow, contractRow};
+ghost use Rattle.totals.specs.Totals.{entryOf};
+ghost use Rattle.accounts.specs.Rows.{joined};
+ghost use Rattle.lines.specs.Lines.{regionLines};
+ghost use Rattle.lines.specs.Emitted.{Emitted, Room};
+ghost use Rattle.walk.specs.Walks.{conLinesAt, contractLinesAt, bookLines, Ready, Payable, Walkable};
+ghost use Rattle.book.specs.Book.{bookIn};
+ghost use Rattle.book.specs.Facts.{Laid};
+use amounts::pools;
+use book::header::Header;
+use lines::groups;
+use lines::make;
+use records::rows;
+use records::rows::Contract;
+use totals::divisors;
+use totals::entries::Totals;
+
+// The lines of the n constraints. The cursor over the unit rows only moves forward.
+fn constraints(
+    buf: &mut [u8],
+    place: usize,
+    regions: &[u8],
+    cons: &[u8],
+    n: usize,
+    units: &[u8],
+    m: usize,
+    own: Totals,
+    account: u32,
+) -> usize
+    requires { ⌜ (60 ≤ length (now regions)) × ((n * 40 ≤ length (now cons)) × (m * 20 ≤ length (now units))) ⌝ }
+    requires { ⌜ Ready (entryRow (now regions)) (constraintRow (now cons)) n (unitRow (now units)) m own ⌝ }
+    requires { ⌜ Room (now buf) place (length (joined (conLinesAt (entryRow (now regions)) (constraintRow (now cons)) (unitRow (now units)) m account own) n)) ⌝ }
+    ensures { λ x. ⌜ Emitted (now (buf .entry)) place (joined (conLinesAt (entryRow (now (regions .entry))) (constraintRow (now (cons .entry))) (unitRow (now (units .entry))) m account own) n) (now (buf .exit)) x ⌝ }
+{
+    let all = divisors::totals_of(regions);
+    let mut end = place;
+    let mut at = 0;
+    let mut j = 0;
+    while j < n {
+        let r = rows::constraint_row(cons, j);
+        let total = divisors::over_regions(all, r);
+        let out = units::constraint_lines(buf, end, units, m, at, r, own, total, account);
+        end = out.place;
+        at = out.next;
+        j += 1;
+    }
+    end
+}
+
+// A contract's two lines in region g, where it benefits.
+fn region_lines(
+    buf: &mut [u8],
+    place: usize,
+    regions: &[u8],
+    k: Contract,
+    g: usize,
+    own: Totals,
+) -> usize
+    requires { ⌜ (60 ≤ length (now regions)) × (g < 5) ⌝ }
+    requires { ⌜ Payable (entryRow (now regions)) k own ⌝ }
+    requires { ⌜ Room (now buf) place (length (regionLines (entryRow (now regions)) (entryOf own) k g)) ⌝ }
+    ensures { λ x. ⌜ Emitted (now (buf .entry)) place (regionLines (entryRow (now (regions .entry))) (entryOf own) k g) (now (buf .exit)) x ⌝ }
+{
+    let factors = k.factors;
+    let factor = factors[g];
+    if factor == 0 {
+        return place;
+    }
+    let e = rows::entry_row(regions, g);
+    let ace = own.ace;
+    let asoe = own.asoe;
+    let x = pools::halves_of(k.payment, factor);
+    let by_ace = make::ace_line(k.id, g, x, ace[g], e.ace as u64);
+    let by_asoe = make::asoe_line(k.id, g, x, asoe[g], e.asoe as u64);
+    groups::emit_two(buf, place, by_ace, by_asoe)
+}
+
+fn contract_lines(buf: &mut [u8], place: usize, regions: &[u8], k: Contract, own: Totals) -> usize
+    requires { ⌜ 60 ≤ length (now regions) ⌝ }
+    requires { ⌜ Payable (entryRow (now regions)) k own ⌝ }
+    requires { ⌜ Room (now buf) place (length (joined (regionLines (entryRow (now regions)) (entryOf own) k) 5)) ⌝ }
+    ensures { λ x. ⌜ Emitted (now (buf .entry)) place (joined (regionLines (entryRow (now (regions .entry))) (entryOf own) k) 5) (now (buf .exit)) x ⌝ }
+{
+    let mut end = place;
+    let mut g = 0;
+    while g < 5 {
+        end = region_lines(buf, end, regions, k, g, own);
+        g += 1;
+    }
+    end
+}
+
+// The lines of the n contracts.
+fn contracts(
+    buf: &mut [u8],
+    place: usize,
+    regions: &[u8],
+    contracts: &[u8],
+    n: usize,
+    own: Totals,
+) -> usize
+    requires { ⌜ (60 ≤ length (now regions)) × (n * 36 ≤ length (now contracts)) ⌝ }
+    requires { ⌜ ((k : ℕ) → k < n → Payable (entryRow (now regions)) (contractRow (now contracts) k) own) ⌝ }
+    requires { ⌜ Room (now buf) place (length (joined (contractLinesAt (entryRow (now regions)) (entryOf own) (contractRow (now contracts))) n)) ⌝ }
+    ensures { λ x. ⌜ Emitted (now (buf .entry)) place (joined (contractLinesAt (entryRow (now (regions .entry))) (entryOf own) (contractRow (now (contracts .entry)))) n) (now (buf .exit)) x ⌝ }
+{
+    let mut end = place;
+    let mut i = 0;
+    while i < n {
+        let k = rows::contract_row(contracts, i);
+        end = contract_lines(buf, end, regions, k, own);
+        i += 1;
+    }
+    end
+}
+
+// All lines of the account, behind the header: those of the constraints, then those of the contracts. Answers where they end.
+pub fn all_lines(buf: &mut [u8], book: &[u8], h: Header, own: Totals, account: u32) -> usize
+    requires { ⌜ Laid (now book) h ⌝ }
+    requires { ⌜ Walkable (bookIn (now book) h) own ⌝ }
+    requires { ⌜ Room (now buf) 24 (length (bookLines (bookIn (now book) h) account own)) ⌝ }
+    ensures { λ e. ⌜ Emitted (now (buf .entry)) 24 (bookLines (bookIn (now (book .entry)) h) account own) (now (buf .exit)) e ⌝ }
+{
+    let units = h.units_at();
+    let paid = h.contracts_at();
+    let first = constraints(
+        buf,
+        24,
+        &book[24..],
+        &book[84..],
+        h.constraints as usize,
+        &book[units..],
+        h.units as usize,
+        own,
+        account,
+    );
+    contracts(
+        buf,
+        first,
+        &book[24..],
+        &book[paid..],
+        h.contracts as usize,
+        own,
+    )
+}
