@@ -34,7 +34,7 @@ use Rattle.lines.specs.Lines.{contingencyLine, unitLines, restLines, regionLine
 use Rattle.settlement.specs.Settle.{linesOf}
 use Rattle.walk.specs.Walks.{ownLines, unitLinesAt, conLines, conLinesAt, contractLinesAt, bookLines}
 use Rattle.settlement.proofs.Link.{lines-link}
-use Rattle.count.proofs.Counting.{rises-once}
+use Rattle.walk.proofs.Order.{rises-once}
 use Rattle.balance.specs.Pools.{Pool, constraintPool, contractPool, hasPart, inPool}
 use Rattle.balance.specs.Shapes.{belongs, plusBy, minusBy, poolBy, creditBy, chargeBy, partOf, consumedPart, sentPart}
 use Rattle.balance.specs.declared.kinds.Kind.{Kind}

@@ -10,7 +10,6 @@ use lib.ListN.{length, length-append}
 use native.Mathlib.Omega.{arith}
 use native.Mathlib.Nat.{eq-or-lt-of-le}
 use Rattle.ground.specs.Bytes.{partFrom}
-use Rattle.sections.specs.Order.{Rises}
 use Rattle.sections.specs.Total.{total, keyed}
 use Rattle.sections.specs.Walk.{Under, Sought}
 use Rattle.sections.proofs.Walk.{under-later}
@@ -24,7 +23,6 @@ use Rattle.records.specs.declared.rows.UnitRow.{UnitRow}
 use Rattle.records.specs.declared.rows.Contract.{Contract}
 use Rattle.factors.specs.Naming.{idOf, keyOf}
 use Rattle.totals.specs.Totals.{entryOf}
-use Rattle.totals.specs.declared.entries.Totals.{Totals}
 use Rattle.amounts.specs.Pools.{poolsOf, residualOf}
 use Rattle.amounts.specs.declared.pools.Residual.{Residual}
 use Rattle.accounts.specs.Rows.{joined}
@@ -34,23 +32,9 @@ use Rattle.book.specs.Header.{unitsFrom, contractsFrom}
 use Rattle.book.specs.declared.header.Header.{Header}
 use Rattle.lines.specs.Lines.{unitLines, restLines, regionLines}
 use Rattle.walk.specs.Walks.{ownLines, unitLinesAt, conLines, conLinesAt, contractLinesAt, bookLines}
+use Rattle.walk.proofs.Order.{rises-once}
 use Rattle.count.specs.Counts.{eachOf, countIn, rowCount, UnitsCounted, BareOf, Countable, MetAt, ConstraintsCounted, ContractCounted, ContractsCounted, BookCounted}
 use Rattle.count.specs.declared.Met.{Met}
-
--- ---- order
-
--- numbers that rise are each at one place only
-pub rises-once : (f : ℕ → ℕ) (n : ℕ) → Rises f n → (i j : ℕ) → i < n → j < n → f i ≡ f j → i ≡ j
-rises-once f n r i j a b e =
-    ⊎-elim
-    (λ (l : i < j). absurd (apart (f i) (f j) (r .rise i j l b) e))
-    (λ (l : j ≤ i). ⊎-elim (λ (q : j ≡ i). sym q) (λ (k : j < i). absurd (apart (f j) (f i) (r .rise j i k a) (sym e))) (eq-or-lt-of-le l))
-    (lt-or-ge i j)
-  where
-    apart : (x y : ℕ) → x < y → x ≡ y → ⊥
-    apart x y l q = omega arith
-
--- ---- lists
 
 -- whichever of two lists is taken, so long it is
 choice-length : {A : Type 0} (t : Bool) (xs ys : List A) → length (cond t xs ys) ≡ cond t (length xs) (length ys)

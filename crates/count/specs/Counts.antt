@@ -1,4 +1,4 @@
--- How many lines an account has. Only contracts of inner functions speak of these; the lines are those of the walk (Walks.antt).
+-- How many lines an account has. Only contracts of inner functions speak of these; the lines are those of the walk (walk/specs/Walks.antt).
 use Prim.Native.Nat.{ℕ, _*_, _≤_, _<_}
 use mathlib.Core.Path.{_≡_}
 use mathlib.Core.Bool.{cond}

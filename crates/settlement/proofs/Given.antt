@@ -19,8 +19,8 @@ use Rattle.book.specs.Book.{Book}
 use Rattle.book.specs.Accepted.{Within, Promise}
 use Rattle.lines.specs.Lines.{Shared}
 use Rattle.walk.specs.Walks.{Ready, Payable}
+use Rattle.walk.proofs.Order.{rises-once}
 use Rattle.count.specs.Counts.{Countable}
-use Rattle.count.proofs.Counting.{rises-once}
 
 -- ---- an account's energy in a region
 

@@ -1,3 +1,4 @@
+pub mod Order
 pub mod UnitRuns
 pub mod OneConstraint
 pub mod Loops
