@@ -1,3 +1,4 @@
+pub mod Passed
 pub mod Read
 pub mod Room
 pub mod Steps

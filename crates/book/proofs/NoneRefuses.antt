@@ -30,6 +30,7 @@ use Rattle.book.specs.Header.{unitsFrom, energiesFrom, contractsFrom}
 use Rattle.book.specs.Book.{Book, bookIn}
 use Rattle.book.specs.Table.{check5, check6, check7, check8, check9, check10, recordChecks}
 use Rattle.book.specs.Facts.{Fields}
+use Rattle.book.proofs.Passed.{none-refused}
 use Rattle.book.specs.Passes.{shortChecks, accepts}
 
 -- what is answered; k is where the contracts start
@@ -127,18 +128,13 @@ short-all B s = rw (s .entries, s .constraints, s .contracts, s .rise, s .contra
 through : (B : Book) → firstOf (recordChecks B) ≡ Accepted → Through B
 unfolding check5 check6 check7 check8 check9
 through B e =
-    let c5 = first-held (check5 B) _ e in
-    let c6 = first-held (check6 B) _ (c5 .rest) in
-    let c7 = first-held (check7 B) _ (c6 .rest) in
-    let c8 = first-held (check8 B) _ (c7 .rest) in
-    let c9 = first-held (check9 B) _ (c8 .rest) in
-    let c10 = first-held (check10 B) _ (c9 .rest) in
-    let entries = first-held _ _ (c5 .here) in
+    let c = none-refused B e in
+    let entries = first-held _ _ (c .fields) in
     let constraints = first-held _ _ (entries .rest) in
     let units = first-held _ _ (constraints .rest) in
     let energies = first-held _ _ (units .rest) in
     let contracts = first-held _ _ (energies .rest) in
-    let ids = first-held _ _ (c6 .here) in
+    let ids = first-held _ _ (c .order) in
     let unit-pairs = first-held _ _ (ids .rest) in
     let energy-pairs = first-held _ _ (unit-pairs .rest) in
     let contract-ids = first-held _ _ (energy-pairs .rest) in
@@ -153,15 +149,15 @@ through B e =
       units = record {
         fields = first-each (λ i. unitOk (B .unit i)) _ (record-held _ _ _ _ (units .here));
         order = first-each (risesBy unitBelow (B .unit)) _ (record-held _ _ _ _ (unit-pairs .here));
-        named = first-each (namedAt (B .constraint) (B .header .constraints) (B .unit)) _ (record-held _ _ _ _ (c7 .here));
-        factored = first-each (factorsAt (B .unit) (B .header .units) (B .constraint)) _ (record-held _ _ _ _ (c8 .here));
+        named = first-each (namedAt (B .constraint) (B .header .constraints) (B .unit)) _ (record-held _ _ _ _ (c .names));
+        factored = first-each (factorsAt (B .unit) (B .header .units) (B .constraint)) _ (record-held _ _ _ _ (c .factors));
       };
       energies = record {
         fields = first-each (λ i. energyOk (B .energy i)) _ (record-held _ _ _ _ (energies .here));
         order = first-each (risesBy energyBelow (B .energy)) _ (record-held _ _ _ _ (energy-pairs .here));
-        sums = first-each (entryAt (B .energy) (B .header .energies) (B .entry)) _ (record-held _ _ _ _ (c9 .here));
+        sums = first-each (entryAt (B .energy) (B .header .energies) (B .entry)) _ (record-held _ _ _ _ (c .sums));
       };
-      divisors = c10 .here;
+      divisors = c .divisors;
     }
 
 -- ---- so no is right where one of them finds something; v is what it answered

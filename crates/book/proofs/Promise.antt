@@ -1,7 +1,7 @@
 -- An accepted book keeps its promises: each check that refuses nothing says what it says of every record. Assumes nothing.
 use Prim.Native.Nat.{ℕ, _+_, _≤_, _<_}
 use mathlib.Core.List.{List}
-use mathlib.Core.Path.{_≡_, refl, sym, _∙_}
+use mathlib.Core.Path.{_≡_, refl}
 use mathlib.Core.Bool.{Bool, true, false, _&&_, cond}
 use borrow.Author.Tests.{eqb-true}
 use lib.Dec.{eqb}
@@ -16,10 +16,11 @@ use Rattle.records.specs.declared.rows.EnergyRow.{EnergyRow}
 use Rattle.factors.proofs.Said.{owner-of, whole-of, plain-of}
 use Rattle.totals.specs.Sums.{regionOf, aceOf, asoeOf, residualOf, SumsTo}
 use Rattle.totals.proofs.Said.{entry-of, divisor-of, funded-of}
-use Rattle.book.specs.Header.{headerOf, rangeTests, inRange}
+use Rattle.book.specs.Header.{rangeTests, inRange}
 use Rattle.book.specs.Book.{Book, bookOf}
-use Rattle.book.specs.Table.{check3, check4, check5, check6, check7, check8, check9, check10, recordChecks, verdict}
+use Rattle.book.specs.Table.{check3, check4, check7, check8, check9, check10, recordChecks, verdict}
 use Rattle.book.specs.Accepted.{ownIn, Within, Promise, AcceptedBook}
+use Rattle.book.proofs.Passed.{none-refused}
 use Rattle.book.proofs.Whole.{few-of}
 use Rattle.book.proofs.Steps.{fields-of, ordered-of}
 
@@ -52,23 +53,18 @@ own-of B s account g l =
 from-records : (B : Book) → inRange (B .header) ≡ true → firstOf (recordChecks B) ≡ Accepted → Promise B
 unfolding check7 check8 check9 check10
 from-records B i e =
-    let c5 = first-held (check5 B) _ e in
-    let c6 = first-held (check6 B) _ (c5 .rest) in
-    let c7 = first-held (check7 B) _ (c6 .rest) in
-    let c8 = first-held (check8 B) _ (c7 .rest) in
-    let c9 = first-held (check9 B) _ (c8 .rest) in
-    let c10 = first-held (check10 B) _ (c9 .rest) in
-    let shared = first-held _ _ (c10 .here) in
+    let c = none-refused B e in
+    let shared = first-held _ _ (c .divisors) in
     let paid = first-held _ _ (shared .rest) in
-    let sums = entry-of (B .energy) (B .header .energies) (B .entry) (record-held _ _ _ _ (c9 .here)) in
+    let sums = entry-of (B .energy) (B .header .energies) (B .entry) (record-held _ _ _ _ (c .sums)) in
     record {
       few = few-of (B .header) i;
       period = every (rangeTests (B .header)) i .0;
-      fields = fields-of B (c5 .here) refl;
-      ordered = ordered-of B (c6 .here) refl;
-      owner = owner-of (B .constraint) (B .header .constraints) (B .unit) (B .header .units) (record-held _ _ _ _ (c7 .here));
-      factored = whole-of (B .unit) (B .header .units) (B .constraint) (B .header .constraints) (record-held _ _ _ _ (c8 .here));
-      default = plain-of (B .unit) (B .header .units) (B .constraint) (B .header .constraints) (record-held _ _ _ _ (c8 .here));
+      fields = fields-of B (c .fields) refl;
+      ordered = ordered-of B (c .order) refl;
+      owner = owner-of (B .constraint) (B .header .constraints) (B .unit) (B .header .units) (record-held _ _ _ _ (c .names));
+      factored = whole-of (B .unit) (B .header .units) (B .constraint) (B .header .constraints) (record-held _ _ _ _ (c .factors));
+      default = plain-of (B .unit) (B .header .units) (B .constraint) (B .header .constraints) (record-held _ _ _ _ (c .factors));
       entry = sums;
       divisor = divisor-of (B .entry) (B .constraint) (B .header .constraints) (record-held _ _ _ _ (shared .here));
       funded = funded-of (B .entry) (B .contract) (B .header .contracts) (record-held _ _ _ _ (paid .here));

@@ -8,7 +8,6 @@ use Rattle.sections.specs.First.{firstBad}
 use Rattle.sections.specs.Order.{Keeps, PairsRise}
 use Rattle.sections.specs.Refusal.{atRecord, earlier, firstOf}
 use Rattle.sections.specs.declared.Checked.{Checked}
-use Rattle.sections.specs.declared.Checked.the-variants.{Good}
 use Rattle.sections.specs.declared.Verdict.{Verdict}
 use Rattle.sections.specs.declared.Verdict.the-variants.{Accepted}
 use Rattle.sections.proofs.Refusal.{record-held, first-held, earlier-last}

@@ -9,11 +9,12 @@ use lib.ListN.{length}
 use Rattle.ground.specs.Bytes.{AreBytes}
 use Rattle.ground.proofs.Put.{put-there}
 use Rattle.sections.proofs.First.{first-each}
-use Rattle.sections.proofs.Refusal.{record-held, first-held}
+use Rattle.sections.proofs.Refusal.{record-held}
 use Rattle.sections.specs.declared.Verdict.{Verdict}
 use Rattle.sections.specs.declared.Verdict.the-variants.{Accepted, Refused}
 use Rattle.book.specs.Book.{bookOf}
-use Rattle.book.specs.Table.{verdict, check5, check6, check7, check8, check9}
+use Rattle.book.proofs.Passed.{records-passed}
+use Rattle.book.specs.Table.{verdict, check8, check9}
 use Rattle.accounts.specs.Rows.{keep, sumOf}
 use Rattle.accounts.specs.Account.{publicOf, rowsOfAccount}
 use Rattle.parties.specs.Once.{has}
@@ -70,21 +71,13 @@ front-is xs l r x g = rw (g .answer, g .bytes) (put-there l 0 xs (omega (arith, 
 
 -- an accepted book passed checks 5, 8 and 9
 numbers-of : (b : List ℕ) → AreBytes b → verdict b ≡ Accepted → NumbersAreTheGuides b
-unfolding verdict check8 check9
+unfolding check8 check9
 numbers-of b bytes v =
-    let c1 = first-held _ _ v in
-    let c2 = first-held _ _ (c1 .rest) in
-    let c3 = first-held _ _ (c2 .rest) in
-    let c4 = first-held _ _ (c3 .rest) in
-    let c5 = first-held (check5 (bookOf b)) _ (c4 .rest) in
-    let c6 = first-held (check6 (bookOf b)) _ (c5 .rest) in
-    let c7 = first-held (check7 (bookOf b)) _ (c6 .rest) in
-    let c8 = first-held (check8 (bookOf b)) _ (c7 .rest) in
-    let c9 = first-held (check9 (bookOf b)) _ (c8 .rest) in
+    let c = records-passed b v in
     record {
       ranges = check-5-is-the-guides b bytes;
-      factors = λ j l. check-8-is-the-guides b bytes (c5 .here) j l .0 (first-each _ _ (record-held _ _ _ _ (c8 .here)) j l);
-      energies = λ g l. check-9-is-the-guides b bytes (c5 .here) g l .0 (first-each _ _ (record-held _ _ _ _ (c9 .here)) g l);
+      factors = λ j l. check-8-is-the-guides b bytes (c .fields) j l .0 (first-each _ _ (record-held _ _ _ _ (c .factors)) j l);
+      energies = λ g l. check-9-is-the-guides b bytes (c .fields) g l .0 (first-each _ _ (record-held _ _ _ _ (c .sums)) g l);
     }
 
 book-numbers : (b : List ℕ) → AreBytes b → (v : Verdict) → verdict b ≡ v → (r : VerdictAnswer) → r ≡ verdictAnswer v → r .refusal ≡ 0 → NumbersAreTheGuides b
