@@ -7,7 +7,7 @@ use native.Mathlib.Omega.{arith}
 use native.Mathlib.Numerals.{add-one}
 use native.Mathlib.Nat.{eq-or-lt-of-le, not-suc-le-zero, le-of-suc-le-suc, le-refl}
 use lib.ListN.{length, length-append}
-use Rattle.ground.specs.Each.{Each}
+use Rattle.ground.specs.Inner.Each.{Each}
 use Rattle.ground.proofs.Each.{each-append}
 use Rattle.accounts.specs.Rows.{joined}
 use Rattle.sections.specs.Total.{total}

@@ -5,15 +5,15 @@ use mathlib.Core.Path.{_≡_, refl, sym, _∙_}
 use mathlib.Core.Bool.{Bool, true, false, cond, not, _&&_}
 use native.Mathlib.Omega.{arith}
 use lib.Dec.{eqb}
-use Rattle.records.specs.Facts.{EntryRule}
+use Rattle.records.specs.Inner.Facts.{EntryRule}
 use Rattle.records.specs.declared.rows.EnergyRow.{EnergyRow}
-use Rattle.totals.specs.Totals.{Five, entryOf}
+use Rattle.totals.specs.Inner.Totals.{Five, entryOf}
 use Rattle.totals.proofs.Turns.{totals-once}
 use Rattle.book.specs.Book.{Book}
-use Rattle.book.specs.Accepted.{ownIn, Within, Promise}
+use Rattle.book.specs.Inner.Accepted.{ownTotal, AtMostEntry, Promise}
 use Rattle.accounts.specs.Rows.{rowsOf, keep, sumOf, none}
 use Rattle.accounts.specs.Account.{rowsOfAccount, ownEnergy, unknown}
-use Rattle.accounts.specs.Held.{HeldIs}
+use Rattle.accounts.specs.Inner.Held.{HeldIs}
 use Rattle.accounts.specs.declared.Held.{Held}
 use Rattle.accounts.proofs.Lists.{total-rows}
 
@@ -22,15 +22,15 @@ both true b x = refl
 both false b x = refl
 
 -- the sum by index is the sum over the account's rows
-pub own-in : (B : Book) (account g : ℕ) (f : EnergyRow → ℕ) → ownIn B account g f ≡ sumOf (λ r. cond (eqb (r .region) g) (f r) 0) (rowsOfAccount B account .energies)
-unfolding ownIn rowsOfAccount
+pub own-in : (B : Book) (account g : ℕ) (f : EnergyRow → ℕ) → ownTotal B account g f ≡ sumOf (λ r. cond (eqb (r .region) g) (f r) 0) (rowsOfAccount B account .energies)
+unfolding ownTotal rowsOfAccount
 own-in B account g f =
     total-rows (B .energy) (λ r. eqb (r .account) account) (λ r. cond (eqb (r .region) g) (f r) 0) _
     (λ i. both (eqb (B .energy i .account) account) (eqb (B .energy i .region) g) (f (B .energy i)))
     (B .header .energies)
 
 module _ {B : Book} (h : Promise B) (account g : ℕ) where
-  pub own-within : g < 5 → Within (B .entry g) (ownEnergy (rowsOfAccount B account .energies) g .ace) (ownEnergy (rowsOfAccount B account .energies) g .asoe) (ownEnergy (rowsOfAccount B account .energies) g .residual)
+  pub own-within : g < 5 → AtMostEntry (B .entry g) (ownEnergy (rowsOfAccount B account .energies) g .ace) (ownEnergy (rowsOfAccount B account .energies) g .asoe) (ownEnergy (rowsOfAccount B account .energies) g .residual)
   unfolding ownEnergy
   own-within l =
       let w = h .own account g l in

@@ -8,20 +8,20 @@ use borrow.Author.Tests.{eq-eqb, ne-eqb}
 use lib.Dec.{eqb, ltb}
 use lib.ListN.{getD, replicate}
 use Rattle.sections.specs.Total.{keyed}
-use Rattle.sections.specs.Order.{Keeps}
-use Rattle.sections.specs.Walk.{Stands, Past, atKey, Split}
+use Rattle.sections.specs.Inner.Order.{Keeps}
+use Rattle.sections.specs.Inner.Walk.{Stands, Past, atKey, Split}
 use Rattle.sections.proofs.Search.{some-none, some-here}
 use Rattle.sections.proofs.Total.{keyed-hit, keyed-le}
 use Rattle.sections.proofs.Groups.{split-nothing, split-more, split-rest, split-bound}
 use Rattle.sections.proofs.Walk.{Run, run-start, run-next, run-over, run-any, at-key, before-run, behind-run}
-use Rattle.records.specs.Facts.{EnergyRule}
+use Rattle.records.specs.Inner.Facts.{EnergyRule}
 use Rattle.records.specs.declared.rows.UnitRow.{UnitRow}
 use Rattle.records.specs.declared.rows.EnergyRow.{EnergyRow}
 use Rattle.totals.specs.Sums.{regionOf}
 use Rattle.totals.specs.declared.entries.Totals.{Totals}
 use Rattle.accounts.specs.Rows.{rowsOf, keep, sumOf, none}
 use Rattle.accounts.specs.Account.{ownEnergy}
-use Rattle.accounts.specs.Held.{HeldIs, Low, plus, Added}
+use Rattle.accounts.specs.Inner.Held.{HeldIs, Low, withMore, OwnAdded}
 use Rattle.accounts.proofs.Lists.{total-rows, some-rows}
 
 -- ---- unit rows
@@ -69,9 +69,9 @@ module _ (energy : ℕ → EnergyRow) (n account : ℕ) where
   sums-low i few q s g b =
       let high = s .run .high in
       record {
-        ace = omega (arith, split-bound _ _ 5 40000000 n (λ j k. keyed-le accountOf account _ 40000000 j (omega (arith, q j k .ace))) i (s .ace) high g b);
-        asoe = omega (arith, split-bound _ _ 5 40000000 n (λ j k. keyed-le accountOf account _ 40000000 j (omega (arith, q j k .asoe))) i (s .asoe) high g b);
-        residual = omega (arith, split-bound _ _ 5 40000000 n (λ j k. keyed-le accountOf account _ 40000000 j (let a = q j k in omega arith)) i (s .residual) high g b);
+        ace = omega (arith, split-bound _ _ 5 40_000_000 n (λ j k. keyed-le accountOf account _ 40_000_000 j (omega (arith, q j k .ace))) i (s .ace) high g b);
+        asoe = omega (arith, split-bound _ _ 5 40_000_000 n (λ j k. keyed-le accountOf account _ 40_000_000 j (omega (arith, q j k .asoe))) i (s .asoe) high g b);
+        residual = omega (arith, split-bound _ _ 5 40_000_000 n (λ j k. keyed-le accountOf account _ 40_000_000 j (let a = q j k in omega arith)) i (s .residual) high g b);
       }
 
   -- the loop's test holds of row i: it is there, and the account's
@@ -87,12 +87,12 @@ module _ (energy : ℕ → EnergyRow) (n account : ℕ) where
       pub own-room : n ≤ 1024 → EnergyRule r × Low o (r .region)
       own-room few = (own-rule, sums-low i few rules s (r .region) (omega (arith, own-rule .region)))
 
-      more : (f : EnergyRow → ℕ) {l : List ℕ} → Split 5 (regionOf energy) (mineOf f) i l → Split 5 (regionOf energy) (mineOf f) (i + 1) (plus l (r .region) (f r))
+      more : (f : EnergyRow → ℕ) {l : List ℕ} → Split 5 (regionOf energy) (mineOf f) i l → Split 5 (regionOf energy) (mineOf f) (i + 1) (withMore l (r .region) (f r))
       more f d =
           split-more _ _ 5 i d (ap (λ (r : EnergyRow). r .region) q) (omega (arith, own-rule .region)) (ap f q ∙ keyed-hit accountOf account (λ i. f (energy i)) i (own-at .1))
 
       -- a turn: x has the sums with it
-      pub sums-more : {x : Totals} → Added r o x → Sums (i + 1) x
+      pub sums-more : {x : Totals} → OwnAdded r o x → Sums (i + 1) x
       sums-more p =
           record {
             run = run-next _ n account i (s .run) (own-at .0) (own-at .1);

@@ -1,3 +1,3 @@
 pub mod Rows
 pub mod Account
-pub mod Held
+pub mod Inner

@@ -4,11 +4,11 @@ ghost use mathlib.Core.Bool.{not};
 ghost use Prim.Native.Nat.{ℕ, _*_, _≤_, _<_};
 ghost use lib.Dec.{eqb};
 ghost use lib.ListN.{length};
-ghost use Rattle.sections.specs.Order.{Keeps};
+ghost use Rattle.sections.specs.Inner.Order.{Keeps};
 ghost use Rattle.records.specs.Rows.{energyRow, unitRow};
-ghost use Rattle.records.specs.Facts.{EnergyRule};
+ghost use Rattle.records.specs.Inner.Facts.{EnergyRule};
 ghost use Rattle.accounts.specs.Rows.{rowsOf, keep, none};
-ghost use Rattle.accounts.specs.Held.{Low, Added, HeldIs};
+ghost use Rattle.accounts.specs.Inner.Held.{Low, OwnAdded, HeldIs};
 use records::find;
 use records::rows;
 use records::rows::EnergyRow;
@@ -25,7 +25,7 @@ pub struct Held {
 fn add_row(ace: &mut [u64; 5], asoe: &mut [u64; 5], residual: &mut [u64; 5], r: EnergyRow)
     requires { ⌜ EnergyRule r ⌝ }
     requires { ⌜ Low (record { ace = now ace; asoe = now asoe; residual = now residual }) (r .region) ⌝ }
-    ensures { λ _. ⌜ Added r (record { ace = now (ace .entry); asoe = now (asoe .entry); residual = now (residual .entry) }) (record { ace = now (ace .exit); asoe = now (asoe .exit); residual = now (residual .exit) }) ⌝ }
+    ensures { λ _. ⌜ OwnAdded r (record { ace = now (ace .entry); asoe = now (asoe .entry); residual = now (residual .entry) }) (record { ace = now (ace .exit); asoe = now (asoe .exit); residual = now (residual .exit) }) ⌝ }
 {
     let g = r.region as usize;
     entries::bump(ace, g, r.ace as u64);

@@ -31,9 +31,9 @@ none-less : (a n d : ℕ) → n ≡ 0 → less (roundN n d) (roundN a d) ≡ neg
 none-less a n d e = ap (λ (k : ℕ). less k (roundN a d)) (none-of n d e) ∙ charge-only (roundN a d)
 
 -- a factor that is not above 0, and a pool of which nothing is credited
-pub factor-below : (pool minus : ℕ) → byFactor pool 0 minus ≡ signed true (roundN (pool * minus) 1000000)
+pub factor-below : (pool below : ℕ) → byFactor pool 0 below ≡ signed true (roundN (pool * below) 1_000_000)
 unfolding byFactor
-factor-below pool minus = none-less (pool * minus) (pool * 0) 1000000 (mul-zero pool)
+factor-below pool below = none-less (pool * below) (pool * 0) 1_000_000 (mul-zero pool)
 
 pub charge-shared : (charge own total : ℕ) → byEnergy 0 charge own total ≡ signed true (roundN (charge * own) total)
 unfolding byEnergy

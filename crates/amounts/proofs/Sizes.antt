@@ -8,18 +8,18 @@ use Rattle.ground.specs.Round.{roundN}
 use Rattle.ground.proofs.Rounding.{round-share, half-below}
 use Rattle.market.specs.Kinds.{modeWith}
 use Rattle.records.specs.Rules.{modeOf}
-use Rattle.records.specs.Facts.{ConstraintRule}
+use Rattle.records.specs.Inner.Facts.{ConstraintRule}
 use Rattle.market.specs.declared.Mode.{Mode}
 use Rattle.market.specs.declared.Mode.the-variants.{Contingency, Factored, Default, Unknown}
 use Rattle.records.specs.declared.rows.Constraint.{Constraint}
-use Rattle.amounts.specs.Pools.{poolsIn, poolsOf, residualOf, halvesOf}
-use Rattle.amounts.specs.Bounds.{SmallPools, SmallResidual, SmallHalves}
+use Rattle.amounts.specs.Pools.{poolsByMode, poolsOf, residualPools, halvesOf}
+use Rattle.amounts.specs.Inner.Bounds.{SmallPools, SmallResidual, SmallHalves}
 use Rattle.amounts.specs.declared.pools.Pools.{Pools}
 
 -- the data of a factored mode are in range
 pub record InRange (price response usage : ℕ) : Type 0 where
-  pub product : price * response ≤ 6000000000000
-  pub used : usage ≤ 1000000
+  pub product : price * response ≤ 6_000_000_000_000
+  pub used : usage ≤ 1_000_000
 
 abbrev DataOf : Mode → Type 0
 DataOf Contingency = Unit
@@ -42,36 +42,36 @@ pub data-in : (r : Constraint) {m : Mode} {p s u : ℕ} → ConstraintRule r →
 data-in r h e f = rw (sym e ∙ f) at (data-of r h)
 
 -- a rounded 120th of 6,000,000,000,000
-fpp-small : (n : ℕ) → n ≤ 6000000000000 → roundN n 120 ≤ 50000000000
+fpp-small : (n : ℕ) → n ≤ 6_000_000_000_000 → roundN n 120 ≤ 50_000_000_000
 fpp-small n l = omega (arith, half-below n 120 (omega arith))
 
 pub pools-small : (r : Constraint) → ConstraintRule r → SmallPools (poolsOf r)
-unfolding poolsIn
+unfolding poolsByMode
 pools-small r h = by (modeOf r) (data-of r h)
   where
-    by : (m : Mode) → DataOf m → SmallPools (poolsIn (r .cost) m)
+    by : (m : Mode) → DataOf m → SmallPools (poolsByMode (r .cost) m)
     by Contingency d = record { fpp = omega arith; used = omega arith; unused = h .cost }
     by (Factored p s u) d =
         record {
           fpp = fpp-small (p * s) (d .product);
-          used = omega (arith, round-share (r .cost) u 1000000 (d .used), h .cost);
+          used = omega (arith, round-share (r .cost) u 1_000_000 (d .used), h .cost);
           unused = omega (arith, h .cost);
         }
     by Default d = record { fpp = omega arith; used = omega arith; unused = h .cost }
     by Unknown d = record { fpp = omega arith; used = omega arith; unused = h .cost }
 
-pub residual-small : (r : Constraint) (p : Pools) → ConstraintRule r → SmallPools p → SmallResidual (residualOf r p)
-unfolding residualOf
+pub residual-small : (r : Constraint) (p : Pools) → ConstraintRule r → SmallPools p → SmallResidual (residualPools r p)
+unfolding residualPools
 residual-small r p h s =
     record {
-      credit = omega (arith, round-share (p .fpp) (r .plus) 1000000 (h .plus), s .fpp);
-      charge = omega (arith, round-share (p .fpp) (r .minus) 1000000 (h .minus), s .fpp);
-      used = omega (arith, round-share (p .used) (r .minus) 1000000 (h .minus), s .used);
-      unused = omega (arith, round-share (p .unused) (r .drcf) 1000000 (h .drcf), s .unused);
+      credit = omega (arith, round-share (p .fpp) (r .prcf) 1_000_000 (h .prcf), s .fpp);
+      charge = omega (arith, round-share (p .fpp) (r .nrcf) 1_000_000 (h .nrcf), s .fpp);
+      used = omega (arith, round-share (p .used) (r .nrcf) 1_000_000 (h .nrcf), s .used);
+      unused = omega (arith, round-share (p .unused) (r .drcf) 1_000_000 (h .drcf), s .unused);
     }
 
-pub halves-small : (payment factor : ℕ) → payment ≤ 50000000000 → factor ≤ 1000000 → SmallHalves (halvesOf payment factor)
+pub halves-small : (payment factor : ℕ) → payment ≤ 50_000_000_000 → factor ≤ 1_000_000 → SmallHalves (halvesOf payment factor)
 unfolding halvesOf
 halves-small payment factor l m =
-    let h = round-share payment factor 1000000 m in
+    let h = round-share payment factor 1_000_000 m in
     record { consumed = omega arith; sent = omega arith }

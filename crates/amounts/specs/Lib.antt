@@ -1,3 +1,3 @@
 pub mod Shares
 pub mod Pools
-pub mod Bounds
+pub mod Inner

@@ -1,6 +1,7 @@
 -- What a constraint or a contract has to recover. 01, The amounts.
 use Prim.Native.Nat.{ℕ, _+_, _-_, _*_, _/_}
 use Rattle.ground.specs.Round.{roundN}
+use Rattle.ground.specs.Units.{million}
 use Rattle.records.specs.Rules.{modeOf}
 use Rattle.market.specs.declared.Mode.{Mode}
 use Rattle.market.specs.declared.Mode.the-variants.{Contingency, Factored, Default, Unknown}
@@ -14,28 +15,28 @@ abbrev pub allUnused : ℕ → Pools
 allUnused cost = record { fpp = 0; used = 0; unused = cost }
 
 -- "used = round(cost x usage / 1,000,000); unused = cost - used." "FPP pool = round(price x RCR / 120)."
-unfoldable pub poolsIn : ℕ → Mode → Pools
-poolsIn cost Contingency = allUnused cost
-poolsIn cost (Factored price response usage) =
+unfoldable pub poolsByMode : ℕ → Mode → Pools
+poolsByMode cost Contingency = allUnused cost
+poolsByMode cost (Factored price response usage) =
     record {
       fpp = roundN (price * response) 120;
-      used = roundN (cost * usage) 1000000;
-      unused = cost - roundN (cost * usage) 1000000;
+      used = roundN (cost * usage) million;
+      unused = cost - roundN (cost * usage) million;
     }
-poolsIn cost Default = allUnused cost
-poolsIn cost Unknown = allUnused cost
+poolsByMode cost Default = allUnused cost
+poolsByMode cost Unknown = allUnused cost
 
 abbrev pub poolsOf : Constraint → Pools
-poolsOf r = poolsIn (r .cost) (modeOf r)
+poolsOf r = poolsByMode (r .cost) (modeOf r)
 
 -- "Residual pools are made the same way, from RCF, min(0, RCF), DRCF."
-unfoldable pub residualOf : Constraint → Pools → Residual
-residualOf r p =
+unfoldable pub residualPools : Constraint → Pools → Residual
+residualPools r p =
     record {
-      credit = roundN (p .fpp * r .plus) 1000000;
-      charge = roundN (p .fpp * r .minus) 1000000;
-      used = roundN (p .used * r .minus) 1000000;
-      unused = roundN (p .unused * r .drcf) 1000000;
+      credit = roundN (p .fpp * r .prcf) million;
+      charge = roundN (p .fpp * r .nrcf) million;
+      used = roundN (p .used * r .nrcf) million;
+      unused = roundN (p .unused * r .drcf) million;
     }
 
 -- "r = round(payment x factor / 1,000,000). The consumed half is r / 2, an odd r rounded up; the sent-out half is the rest."
@@ -43,4 +44,4 @@ abbrev pub halve : ℕ → Halves
 halve r = record { consumed = (r + 1) / 2; sent = r - (r + 1) / 2 }
 
 unfoldable pub halvesOf : ℕ → ℕ → Halves
-halvesOf payment factor = halve (roundN (payment * factor) 1000000)
+halvesOf payment factor = halve (roundN (payment * factor) million)

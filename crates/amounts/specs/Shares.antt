@@ -4,10 +4,11 @@ use Prim.Native.Nat.{ℕ, _*_}
 use lib.IntN.{ℤ}
 use Rattle.ground.specs.Round.{roundN}
 use Rattle.ground.specs.Sign.{less}
+use Rattle.ground.specs.Units.{million}
 
--- "round(pool x factor / 1,000,000)", where the factor is plus - minus
+-- "round(pool x factor / 1,000,000)", where the factor is above - below, of which one is 0
 unfoldable pub byFactor : ℕ → ℕ → ℕ → ℤ
-byFactor pool plus minus = less (roundN (pool * plus) 1000000) (roundN (pool * minus) 1000000)
+byFactor pool above below = less (roundN (pool * above) million) (roundN (pool * below) million)
 
 -- "round(pool x own / total)", where the pool is credit - charge
 unfoldable pub byEnergy : ℕ → ℕ → ℕ → ℕ → ℤ

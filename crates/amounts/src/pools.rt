@@ -2,9 +2,10 @@
 ghost use mathlib.Core.Path.{_≡_};
 ghost use Prim.Native.Nat.{_*_, _≤_};
 ghost use Rattle.ground.specs.Round.{roundN};
-ghost use Rattle.records.specs.Facts.{ConstraintRule};
-ghost use Rattle.amounts.specs.Pools.{poolsOf, residualOf, halvesOf};
-ghost use Rattle.amounts.specs.Bounds.{SmallPools};
+ghost use Rattle.ground.specs.Units.{million, moneyLimit};
+ghost use Rattle.records.specs.Inner.Facts.{ConstraintRule};
+ghost use Rattle.amounts.specs.Pools.{poolsOf, residualPools, halvesOf};
+ghost use Rattle.amounts.specs.Inner.Bounds.{SmallPools};
 use crate::shares;
 use ground::round;
 use market::Mode;
@@ -56,7 +57,7 @@ pub fn pools_of(r: Constraint) -> Pools
             unused: r.cost,
         };
     };
-    let used = shares::share(r.cost, usage as u64, 1000000);
+    let used = shares::share(r.cost, usage as u64, 1_000_000);
     Pools {
         fpp: fpp_pool(price, response),
         used,
@@ -67,22 +68,22 @@ pub fn pools_of(r: Constraint) -> Pools
 pub fn residual_of(r: Constraint, p: Pools) -> Residual
     requires { ⌜ ConstraintRule r ⌝ }
     requires { ⌜ SmallPools p ⌝ }
-    ensures { λ x. ⌜ x ≡ residualOf r p ⌝ }
+    ensures { λ x. ⌜ x ≡ residualPools r p ⌝ }
 {
     Residual {
-        credit: shares::share(p.fpp, r.plus as u64, 1000000),
-        charge: shares::share(p.fpp, r.minus as u64, 1000000),
-        used: shares::share(p.used, r.minus as u64, 1000000),
-        unused: shares::share(p.unused, r.drcf as u64, 1000000),
+        credit: shares::share(p.fpp, r.prcf as u64, 1_000_000),
+        charge: shares::share(p.fpp, r.nrcf as u64, 1_000_000),
+        used: shares::share(p.used, r.nrcf as u64, 1_000_000),
+        unused: shares::share(p.unused, r.drcf as u64, 1_000_000),
     }
 }
 
 // The odd unit of money goes to the consumed half.
 pub fn halves_of(payment: u64, factor: u32) -> Halves
-    requires { ⌜ (payment ≤ 50000000000) × (factor ≤ 1000000) ⌝ }
+    requires { ⌜ (payment ≤ moneyLimit) × (factor ≤ million) ⌝ }
     ensures { λ x. ⌜ x ≡ halvesOf payment factor ⌝ }
 {
-    let part = shares::share(payment, factor as u64, 1000000);
+    let part = shares::share(payment, factor as u64, 1_000_000);
     let consumed = round::nearest(part, 2);
     Halves {
         consumed,

@@ -4,13 +4,14 @@ ghost use mathlib.Core.Path.{_≡_};
 ghost use Prim.Native.Nat.{_*_, _≤_, _<_};
 ghost use Rattle.ground.specs.Round.{roundN};
 ghost use Rattle.ground.specs.Sign.{less};
+ghost use Rattle.ground.specs.Units.{million, moneyLimit, totalLimit};
 ghost use Rattle.amounts.specs.Shares.{byFactor, byEnergy};
 use ground::round;
 use ground::sign;
 
 // pool x own / total, to the nearest. The product fits, since pools and totals are small.
 pub fn share(pool: u64, own: u64, total: u64) -> u64
-    requires { ⌜ (pool ≤ 50000000000) × ((own ≤ total) × ((0 < total) × (total ≤ 100000000))) ⌝ }
+    requires { ⌜ (pool ≤ moneyLimit) × ((own ≤ total) × ((0 < total) × (total ≤ totalLimit))) ⌝ }
     ensures { λ r. ⌜ r ≡ roundN (pool * own) total ⌝ }
 {
     round::nearest(pool * own, total)
@@ -18,27 +19,27 @@ pub fn share(pool: u64, own: u64, total: u64) -> u64
 
 // What is credited less what is charged: of one line, or summed over lines.
 pub fn net(credit: u64, charge: u64) -> i64
-    requires { ⌜ (credit ≤ 1000000000000000) × (charge ≤ 1000000000000000) ⌝ }
+    requires { ⌜ (credit ≤ 1_000_000_000_000_000) × (charge ≤ 1_000_000_000_000_000) ⌝ }
     ensures { λ r. ⌜ r ≡ less credit charge ⌝ }
 {
     sign::plus(sign::signed(false, credit), sign::signed(true, charge))
 }
 
 // A unit's part of a pool: a positive factor credits, a negative one charges.
-pub fn by_factor(pool: u64, plus: u32, minus: u32) -> i64
-    requires { ⌜ (pool ≤ 50000000000) × ((plus ≤ 1000000) × (minus ≤ 1000000)) ⌝ }
-    ensures { λ r. ⌜ r ≡ byFactor pool plus minus ⌝ }
+pub fn by_factor(pool: u64, above: u32, below: u32) -> i64
+    requires { ⌜ (pool ≤ moneyLimit) × ((above ≤ million) × (below ≤ million)) ⌝ }
+    ensures { λ r. ⌜ r ≡ byFactor pool above below ⌝ }
 {
     net(
-        share(pool, plus as u64, 1000000),
-        share(pool, minus as u64, 1000000),
+        share(pool, above as u64, 1_000_000),
+        share(pool, below as u64, 1_000_000),
     )
 }
 
 // An account's part of a pool by its energy. The pool itself is a credit or a charge: as a rule it has one side, and is then divided
 // once.
 pub fn by_energy(credit: u64, charge: u64, own: u64, total: u64) -> i64
-    requires { ⌜ (credit ≤ 50000000000) × ((charge ≤ 50000000000) × ((own ≤ total) × ((0 < total) × (total ≤ 100000000)))) ⌝ }
+    requires { ⌜ (credit ≤ moneyLimit) × ((charge ≤ moneyLimit) × ((own ≤ total) × ((0 < total) × (total ≤ totalLimit)))) ⌝ }
     ensures { λ r. ⌜ r ≡ byEnergy credit charge own total ⌝ }
 {
     if (credit == 0) | (charge == 0) {

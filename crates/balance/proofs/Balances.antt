@@ -17,17 +17,17 @@ use Rattle.records.specs.declared.rows.UnitRow.{UnitRow}
 use Rattle.factors.specs.Naming.{keyOf}
 use Rattle.factors.specs.Factors.{sumOver}
 use Rattle.book.specs.Book.{Book}
-use Rattle.book.specs.Accepted.{Promise}
+use Rattle.book.specs.Inner.Accepted.{Promise}
 use Rattle.accounts.specs.Rows.{sumOf}
 use Rattle.accounts.specs.Account.{publicOf, rowsOfAccount}
-use Rattle.parties.specs.Parties.{shareIn, partSum, Shareable}
+use Rattle.parties.specs.Inner.Shares.{shareIn, partSum, Shareable}
 use Rattle.parties.specs.declared.shares.Part.{Part}
 use Rattle.parties.proofs.Sums.{sum-same, sum-plus, sum-none}
 use Rattle.parties.proofs.Everyone.{each-once-unit, part-everyone}
 use Rattle.settlement.specs.Settle.{linesOf}
 use Rattle.balance.specs.Pools.{Pool, recovers, constraintPool, benefiting, contractPool, inPool}
 use Rattle.balance.specs.Balance.{sumZ, accountsOf, poolLines, lineCount, lineSum, balanceIn}
-use Rattle.balance.specs.Shapes.{belongs, unitRows, unitCredit, unitCharge, consumedPart, sentPart, regionSum, contingencyShape, regulationShape, contractShape}
+use Rattle.balance.specs.Inner.Shapes.{belongs, unitRows, unitCredit, unitCharge, consumedPart, sentPart, regionPaid, contingencyShape, regulationShape, contractShape}
 use Rattle.balance.specs.declared.kinds.Kind.{Kind}
 use Rattle.balance.specs.declared.kinds.Kind.the-variants.{Contingency}
 use Rattle.balance.proofs.Kept.{Kept}
@@ -118,8 +118,8 @@ module _ {B : Book} (p : Promise B) where
   contract-count i =
       sum-each _ (accountsOf B) ∙ rw (count-times (λ g. eqb (factorOf (B .contract i .factors) g) 0) 2 5) (omega arith)
 
-  region-sum : (i : ℕ) → i < B .header .contracts → (g : ℕ) → g < 5 → sumOf (λ a. cond (eqb (factorOf (B .contract i .factors) g) 0) 0 (regionShare B a (B .contract i) g)) (accountsOf B) ≡ regionSum B (B .contract i) g
-  unfolding regionSum
+  region-sum : (i : ℕ) → i < B .header .contracts → (g : ℕ) → g < 5 → sumOf (λ a. cond (eqb (factorOf (B .contract i .factors) g) 0) 0 (regionShare B a (B .contract i) g)) (accountsOf B) ≡ regionPaid B (B .contract i) g
+  unfolding regionPaid
   region-sum i l g m = by (eqb (factorOf (B .contract i .factors) g) 0) refl
     where
       by : (t : Bool) → eqb (factorOf (B .contract i .factors) g) 0 ≡ t → sumOf (λ a. cond t 0 (regionShare B a (B .contract i) g)) (accountsOf B) ≡ cond t 0 (partSum (consumedPart (B .entry) (B .contract i) g) (B .energy) (B .header .energies) + partSum (sentPart (B .entry) (B .contract i) g) (B .energy) (B .header .energies))

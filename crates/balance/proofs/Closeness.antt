@@ -12,23 +12,23 @@ use Rattle.ground.specs.Sign.{less}
 use Rattle.ground.proofs.Sizes.{less-size}
 use Rattle.ground.proofs.Rounding.{half-above, half-below, round-zero}
 use Rattle.sections.specs.Total.{total}
-use Rattle.parties.specs.Within.{Within}
+use Rattle.parties.specs.Inner.Within.{HalvesApart}
 
 -- ---- distances
 
 -- what an amount and what is credited and charged make, by its size
-pub size-within : (x c d n : ℕ) → Within n (x + c) d → 2 * natAbs (pos x +ℤ less c d) ≤ n
+pub size-within : (x c d n : ℕ) → HalvesApart n (x + c) d → 2 * natAbs (pos x +ℤ less c d) ≤ n
 size-within x c d n w = rw (← +ℤ-assoc (pos x) (pos c) (negℤ (pos d))) (less-size (x + c) d n (omega (arith, w .down)) (omega (arith, w .up)))
 
 -- with nothing credited, and nothing rounded before
-pub within-plain : {n p s : ℕ} → Within n p s → Within (n + 0) (p + 0) s
+pub within-plain : {n p s : ℕ} → HalvesApart n p s → HalvesApart (n + 0) (p + 0) s
 within-plain w = record { up = omega (arith, w .up); down = omega (arith, w .down) }
 
 -- two halves of an amount, an odd one rounded up
-pub within-halves : (r n : ℕ) {s t : ℕ} → Within n ((r + 1) / 2) s → Within n (r - (r + 1) / 2) t → Within (2 * n) r (s + t)
+pub within-halves : (r n : ℕ) {s t : ℕ} → HalvesApart n ((r + 1) / 2) s → HalvesApart n (r - (r + 1) / 2) t → HalvesApart (2 * n) r (s + t)
 within-halves r n v w = record { up = omega (arith, v .up, w .up); down = omega (arith, v .down, w .down) }
 
-pub within-total : (n p s : ℕ → ℕ) (m : ℕ) → ((g : ℕ) → g < m → Within (n g) (p g) (s g)) → Within (total n m) (total p m) (total s m)
+pub within-total : (n p s : ℕ → ℕ) (m : ℕ) → ((g : ℕ) → g < m → HalvesApart (n g) (p g) (s g)) → HalvesApart (total n m) (total p m) (total s m)
 unfolding total
 within-total n p s zero h = record { up = omega arith; down = omega arith }
 within-total n p s (suc m) h =
@@ -38,41 +38,41 @@ within-total n p s (suc m) h =
 
 -- ---- shares by factors, in millionths
 
--- a pool's shares by the factors plus - minus, rounded, are credit - charge, but for n halves
-pub record Close (pool n plus minus credit charge : ℕ) : Type 0 where
-  pub up : 2000000 * charge + 2 * (pool * plus) ≤ 2000000 * credit + 2 * (pool * minus) + 1000000 * n
-  pub down : 2000000 * credit + 2 * (pool * minus) ≤ 2000000 * charge + 2 * (pool * plus) + 1000000 * n
+-- a pool's shares by the factors above - below, rounded, are credit - charge, but for n halves
+pub record Close (pool n above below credit charge : ℕ) : Type 0 where
+  pub up : 2_000_000 * charge + 2 * (pool * above) ≤ 2_000_000 * credit + 2 * (pool * below) + 1_000_000 * n
+  pub down : 2_000_000 * credit + 2 * (pool * below) ≤ 2_000_000 * charge + 2 * (pool * above) + 1_000_000 * n
 
 -- nothing is shared
-pub nothing : (pool factor : ℕ) → factor ≡ 0 → roundN (pool * factor) 1000000 ≡ 0
-nothing pool factor e = ap (λ (x : ℕ). roundN x 1000000) (ap (λ (x : ℕ). pool * x) e ∙ mul-zero pool) ∙ round-zero 1000000
+pub nothing : (pool factor : ℕ) → factor ≡ 0 → roundN (pool * factor) 1_000_000 ≡ 0
+nothing pool factor e = ap (λ (x : ℕ). roundN x 1_000_000) (ap (λ (x : ℕ). pool * x) e ∙ mul-zero pool) ∙ round-zero 1_000_000
 
 module _ (pool : ℕ) where
   pub close-none : Close pool 0 0 0 0 0
   close-none = record { up = omega arith; down = omega arith }
 
-  pub close-charge : (minus : ℕ) → Close pool 1 0 minus 0 (roundN (pool * minus) 1000000)
-  close-charge minus =
-      let a = half-above (pool * minus) 1000000 (omega arith) in
-      let b = half-below (pool * minus) 1000000 (omega arith) in
+  pub close-charge : (below : ℕ) → Close pool 1 0 below 0 (roundN (pool * below) 1_000_000)
+  close-charge below =
+      let a = half-above (pool * below) 1_000_000 (omega arith) in
+      let b = half-below (pool * below) 1_000_000 (omega arith) in
       record { up = omega arith; down = omega arith }
 
-  close-credit : (plus : ℕ) → Close pool 1 plus 0 (roundN (pool * plus) 1000000) 0
-  close-credit plus =
-      let a = half-above (pool * plus) 1000000 (omega arith) in
-      let b = half-below (pool * plus) 1000000 (omega arith) in
+  close-credit : (above : ℕ) → Close pool 1 above 0 (roundN (pool * above) 1_000_000) 0
+  close-credit above =
+      let a = half-above (pool * above) 1_000_000 (omega arith) in
+      let b = half-below (pool * above) 1_000_000 (omega arith) in
       record { up = omega arith; down = omega arith }
 
   -- one share
-  pub close-one : (plus minus : ℕ) → (plus ≡ 0) ⊎ (minus ≡ 0) → Close pool 1 plus minus (roundN (pool * plus) 1000000) (roundN (pool * minus) 1000000)
-  close-one plus minus h =
+  pub close-one : (above below : ℕ) → (above ≡ 0) ⊎ (below ≡ 0) → Close pool 1 above below (roundN (pool * above) 1_000_000) (roundN (pool * below) 1_000_000)
+  close-one above below h =
       ⊎-elim
-      (λ (e : plus ≡ 0). rw (nothing pool plus e, e) (close-charge minus))
-      (λ (e : minus ≡ 0). rw (nothing pool minus e, e) (close-credit plus))
+      (λ (e : above ≡ 0). rw (nothing pool above e, e) (close-charge below))
+      (λ (e : below ≡ 0). rw (nothing pool below e, e) (close-credit above))
       h
 
   -- a share where a factor is not 0
-  pub close-unless : (factor : ℕ) (t : Bool) → (t ≡ true → factor ≡ 0) → Close pool (cond t 0 1) 0 factor 0 (roundN (pool * factor) 1000000)
+  pub close-unless : (factor : ℕ) (t : Bool) → (t ≡ true → factor ≡ 0) → Close pool (cond t 0 1) 0 factor 0 (roundN (pool * factor) 1_000_000)
   close-unless factor true h = rw (nothing pool factor (h refl), h refl) close-none
   close-unless factor false h = close-charge factor
 
@@ -89,5 +89,5 @@ module _ (pool : ℕ) where
   close-total n a b c d (suc m) h = close-plus (close-total n a b c d m (λ u l. h u (omega arith))) (h m (le-refl (suc m)))
 
   -- where the factors make the amount to recover, so do the shares
-  pub close-within : {n a b c d : ℕ} (amount : ℕ) → Close pool n a b c d → pool * b ≡ pool * a + 1000000 * amount → Within n (amount + c) d
+  pub close-within : {n a b c d : ℕ} (amount : ℕ) → Close pool n a b c d → pool * b ≡ pool * a + 1_000_000 * amount → HalvesApart n (amount + c) d
   close-within amount h e = record { up = omega arith; down = omega arith }

@@ -13,7 +13,7 @@ use lib.IntN.{pos, natAbs, _+ℤ_}
 use lib.ListN.{length}
 use Rattle.ground.specs.Round.{roundN}
 use Rattle.ground.specs.Sign.{less}
-use Rattle.ground.specs.Sizes.{sizeOf, plusOf, minusOf}
+use Rattle.ground.specs.Sizes.{sizeBelow, aboveOf, belowOf}
 use Rattle.ground.proofs.Rounding.{round-zero}
 use Rattle.sections.specs.Total.{total, keyed}
 use Rattle.sections.specs.declared.Verdict.the-variants.{Accepted}
@@ -26,19 +26,19 @@ use Rattle.factors.specs.Naming.{keyOf}
 use Rattle.factors.specs.Factors.{sumOver}
 use Rattle.book.specs.Book.{Book, bookOf}
 use Rattle.book.specs.Table.{verdict}
-use Rattle.book.specs.Accepted.{Promise}
+use Rattle.book.specs.Inner.Accepted.{Promise}
 use Rattle.book.proofs.Promise.{accepted}
-use Rattle.amounts.specs.Pools.{poolsOf, residualOf, halvesOf}
+use Rattle.amounts.specs.Pools.{poolsOf, residualPools, halvesOf}
 use Rattle.amounts.specs.declared.pools.Pools.{Pools}
 use Rattle.accounts.specs.Account.{publicOf}
-use Rattle.parties.specs.Within.{Within}
-use Rattle.parties.specs.Parties.{shareIn, partSum, Shareable}
+use Rattle.parties.specs.Inner.Within.{HalvesApart}
+use Rattle.parties.specs.Inner.Shares.{shareIn, partSum, Shareable}
 use Rattle.parties.specs.declared.shares.Part.{Part}
 use Rattle.parties.proofs.Sums.{sum-same, sum-none}
 use Rattle.parties.proofs.Closing.{part-closing}
 use Rattle.balance.specs.Pools.{Pool, recovers, stagesOf, constraintPool, constraintPools, benefiting, contractPool, poolsIn, found, poolAt}
 use Rattle.balance.specs.Balance.{accountsOf, lineCount, lineSum, balanceIn}
-use Rattle.balance.specs.Shapes.{belongs, plusBy, minusBy, poolBy, creditBy, chargeBy, unitRows, unitCredit, unitCharge, partOf, consumedPart, sentPart, regionSum, contingencyShape, regulationShape, contractShape}
+use Rattle.balance.specs.Inner.Shapes.{belongs, aboveBy, belowBy, poolBy, creditBy, chargeBy, unitRows, unitCredit, unitCharge, partOf, consumedPart, sentPart, regionPaid, contingencyShape, regulationShape, contractShape}
 use Rattle.balance.specs.declared.Balance.{Balance}
 use Rattle.balance.specs.declared.kinds.Kind.{Kind}
 use Rattle.balance.specs.declared.kinds.Kind.the-variants.{Contingency, Fpp, Used, Unused, Payment}
@@ -51,7 +51,7 @@ use Rattle.balance.proofs.Closeness.{size-within, within-plain, within-
 abbrev Closes : Book → Pool → Type 0
 Closes B p = 2 * natAbs (pos (p .amount) +ℤ lineSum B p) ≤ lineCount B p + p .stages
 
-closes-by : (B : Book) (p : Pool) (c : ℕ) {n d : ℕ} → balanceIn B p ≡ record { amount = pos (p .amount); lines = n; sum = less c d } → Within (n + p .stages) (p .amount + c) d → Closes B p
+closes-by : (B : Book) (p : Pool) (c : ℕ) {n d : ℕ} → balanceIn B p ≡ record { amount = pos (p .amount); lines = n; sum = less c d } → HalvesApart (n + p .stages) (p .amount + c) d → Closes B p
 unfolding balanceIn
 closes-by B p c {n} {d} e w =
     let lines : lineCount B p ≡ n = ap (λ (x : Balance). x .lines) e in
@@ -61,14 +61,14 @@ closes-by B p c {n} {d} e w =
 -- ---- a factor with a sign lies above 0 or below, and not both
 
 record OneSided (B : Book) : Type 0 where
-  units : (u : ℕ) → (B .unit u .plus ≡ 0) ⊎ (B .unit u .minus ≡ 0)
-  constraints : (j : ℕ) → (B .constraint j .plus ≡ 0) ⊎ (B .constraint j .minus ≡ 0)
+  units : (u : ℕ) → (B .unit u .pcf ≡ 0) ⊎ (B .unit u .ncf ≡ 0)
+  constraints : (j : ℕ) → (B .constraint j .prcf ≡ 0) ⊎ (B .constraint j .nrcf ≡ 0)
 
-one-side : (w : ℕ) → (plusOf w ≡ 0) ⊎ (minusOf w ≡ 0)
-unfolding plusOf minusOf
-one-side w = by (ltb w 2147483648)
+one-side : (w : ℕ) → (aboveOf w ≡ 0) ⊎ (belowOf w ≡ 0)
+unfolding aboveOf belowOf
+one-side w = by (ltb w 2_147_483_648)
   where
-    by : (t : Bool) → (cond t w 0 ≡ 0) ⊎ (cond t 0 (sizeOf w) ≡ 0)
+    by : (t : Bool) → (cond t w 0 ≡ 0) ⊎ (cond t 0 (sizeBelow w) ≡ 0)
     by true = inr refl
     by false = inl refl
 
@@ -80,40 +80,40 @@ one-sided b = record { units = λ u. one-side _; constraints = λ j. one-side _ 
 
 restPlus : Kind → Constraint → ℕ
 restPlus Contingency r = 0
-restPlus Fpp r = r .plus
+restPlus Fpp r = r .prcf
 restPlus Used r = 0
 restPlus Unused r = 0
 restPlus Payment r = 0
 
 restMinus : Kind → Constraint → ℕ
 restMinus Contingency r = 0
-restMinus Fpp r = r .minus
-restMinus Used r = r .minus
+restMinus Fpp r = r .nrcf
+restMinus Used r = r .nrcf
 restMinus Unused r = r .drcf
 restMinus Payment r = 0
 
-unit-side : (kind : Kind) (q : UnitRow) → (q .plus ≡ 0) ⊎ (q .minus ≡ 0) → (plusBy kind q ≡ 0) ⊎ (minusBy kind q ≡ 0)
-unfolding plusBy minusBy
+unit-side : (kind : Kind) (q : UnitRow) → (q .pcf ≡ 0) ⊎ (q .ncf ≡ 0) → (aboveBy kind q ≡ 0) ⊎ (belowBy kind q ≡ 0)
+unfolding aboveBy belowBy
 unit-side Contingency q s = inl refl
 unit-side Fpp q s = s
 unit-side Used q s = inl refl
 unit-side Unused q s = inl refl
 unit-side Payment q s = inl refl
 
-module _ (r : Constraint) (x : Pools) (s : (r .plus ≡ 0) ⊎ (r .minus ≡ 0)) where
-  rest-side : (kind : Kind) → (creditBy kind (residualOf r x) ≡ 0) ⊎ (chargeBy kind (residualOf r x) ≡ 0)
-  unfolding creditBy chargeBy residualOf
+module _ (r : Constraint) (x : Pools) (s : (r .prcf ≡ 0) ⊎ (r .nrcf ≡ 0)) where
+  rest-side : (kind : Kind) → (creditBy kind (residualPools r x) ≡ 0) ⊎ (chargeBy kind (residualPools r x) ≡ 0)
+  unfolding creditBy chargeBy residualPools
   rest-side Contingency = inl refl
-  rest-side Fpp = ⊎-elim (λ (e : r .plus ≡ 0). inl (nothing (x .fpp) (r .plus) e)) (λ (e : r .minus ≡ 0). inr (nothing (x .fpp) (r .minus) e)) s
+  rest-side Fpp = ⊎-elim (λ (e : r .prcf ≡ 0). inl (nothing (x .fpp) (r .prcf) e)) (λ (e : r .nrcf ≡ 0). inr (nothing (x .fpp) (r .nrcf) e)) s
   rest-side Used = inl refl
   rest-side Unused = inl refl
   rest-side Payment = inl refl
 
-  rest-close : (kind : Kind) → Close (poolBy kind x) 1 (restPlus kind r) (restMinus kind r) (creditBy kind (residualOf r x)) (chargeBy kind (residualOf r x))
-  unfolding poolBy creditBy chargeBy residualOf restPlus restMinus
+  rest-close : (kind : Kind) → Close (poolBy kind x) 1 (restPlus kind r) (restMinus kind r) (creditBy kind (residualPools r x)) (chargeBy kind (residualPools r x))
+  unfolding poolBy creditBy chargeBy residualPools restPlus restMinus
   rest-close Contingency = close-charge 0 0
-  rest-close Fpp = close-one (x .fpp) (r .plus) (r .minus) s
-  rest-close Used = close-charge (x .used) (r .minus)
+  rest-close Fpp = close-one (x .fpp) (r .prcf) (r .nrcf) s
+  rest-close Used = close-charge (x .used) (r .nrcf)
   rest-close Unused = close-charge (x .unused) (r .drcf)
   rest-close Payment = close-charge 0 0
 
@@ -121,7 +121,7 @@ module _ (r : Constraint) (x : Pools) (s : (r .plus ≡ 0) ⊎ (r .minus ≡ 0))
 
 module _ {B : Book} (p : Promise B) where
   -- a part shared over all accounts: a half for each
-  part-within : (x : Part) → Shareable x (B .energy) (B .header .energies) → Within (length (accountsOf B)) (x .amount) (partSum x (B .energy) (B .header .energies))
+  part-within : (x : Part) → Shareable x (B .energy) (B .header .energies) → HalvesApart (length (accountsOf B)) (x .amount) (partSum x (B .energy) (B .header .energies))
   part-within x s = rw (← shares-once B x s) (part-closing x (B .energy) (B .header .energies) (B .unit) (B .header .units) s)
 
   nothing-shared : (x : Part) → x .amount ≡ 0 → partSum x (B .energy) (B .header .energies) ≡ 0
@@ -129,7 +129,7 @@ module _ {B : Book} (p : Promise B) where
   nothing-shared x e = sum-same _ (λ a. 0) _ (λ a. rw (e, zero-mul) (round-zero (x .whole))) ∙ sum-none _
 
   -- two parts of which one is 0: a half for each account all the same
-  sides-within : (x y : Part) → Shareable x (B .energy) (B .header .energies) → Shareable y (B .energy) (B .header .energies) → (x .amount ≡ 0) ⊎ (y .amount ≡ 0) → Within (length (accountsOf B)) (x .amount + partSum y (B .energy) (B .header .energies)) (y .amount + partSum x (B .energy) (B .header .energies))
+  sides-within : (x y : Part) → Shareable x (B .energy) (B .header .energies) → Shareable y (B .energy) (B .header .energies) → (x .amount ≡ 0) ⊎ (y .amount ≡ 0) → HalvesApart (length (accountsOf B)) (x .amount + partSum y (B .energy) (B .header .energies)) (y .amount + partSum x (B .energy) (B .header .energies))
   sides-within x y s t h =
       let v = part-within x s in
       let w = part-within y t in
@@ -138,7 +138,7 @@ module _ {B : Book} (p : Promise B) where
       (λ (e : y .amount ≡ 0). let z = nothing-shared y e in made (omega arith) (omega arith))
       h
     where
-      made : {n a b : ℕ} → 2 * b ≤ 2 * a + n → 2 * a ≤ 2 * b + n → Within n a b
+      made : {n a b : ℕ} → 2 * b ≤ 2 * a + n → 2 * a ≤ 2 * b + n → HalvesApart n a b
       made u d = record { up = u; down = d }
 
   contingency-closes : (j : ℕ) → j < B .header .constraints → B .constraint j .mode ≡ 0 → Closes B (constraintPool (B .constraint j) Contingency)
@@ -149,11 +149,11 @@ module _ {B : Book} (p : Promise B) where
   -- ---- regulation
 
   -- the unit rows: a half for each
-  units-close : OneSided B → (kind : Kind) (id pool : ℕ) → Close pool (unitRows (B .unit) (B .header .units) id) (sumOver (B .unit) (B .header .units) id (plusBy kind)) (sumOver (B .unit) (B .header .units) id (minusBy kind)) (unitCredit (B .unit) (B .header .units) id kind pool) (unitCharge (B .unit) (B .header .units) id kind pool)
+  units-close : OneSided B → (kind : Kind) (id pool : ℕ) → Close pool (unitRows (B .unit) (B .header .units) id) (sumOver (B .unit) (B .header .units) id (aboveBy kind)) (sumOver (B .unit) (B .header .units) id (belowBy kind)) (unitCredit (B .unit) (B .header .units) id kind pool) (unitCharge (B .unit) (B .header .units) id kind pool)
   unfolding unitRows unitCredit unitCharge keyed
   units-close o kind id pool =
       close-total pool _ _ _ _ _ (B .header .units)
-      (λ u l. close-choice pool (eqb (keyOf (B .unit) u) id) (close-one pool (plusBy kind (B .unit u)) (minusBy kind (B .unit u)) (unit-side kind (B .unit u) (o .units u))))
+      (λ u l. close-choice pool (eqb (keyOf (B .unit) u) id) (close-one pool (aboveBy kind (B .unit u)) (belowBy kind (B .unit u)) (unit-side kind (B .unit u) (o .units u))))
 
   -- no factor
   no-factor : (id : ℕ) → sumOver (B .unit) (B .header .units) id (λ q. 0) ≡ 0
@@ -166,10 +166,10 @@ module _ {B : Book} (p : Promise B) where
 
   module _ (j : ℕ) (l : j < B .header .constraints) (live : B .constraint j .mode ≡ 0 → ⊥) where
     -- the default factors make a million, factored or not
-    default-whole : sumOver (B .unit) (B .header .units) (B .constraint j .id) (λ q. q .dcf) + B .constraint j .drcf ≡ 1000000
+    default-whole : sumOver (B .unit) (B .header .units) (B .constraint j .id) (λ q. q .dcf) + B .constraint j .drcf ≡ 1_000_000
     default-whole = by (eqb (B .constraint j .mode) 1) refl
       where
-        by : (t : Bool) → eqb (B .constraint j .mode) 1 ≡ t → sumOver (B .unit) (B .header .units) (B .constraint j .id) (λ q. q .dcf) + B .constraint j .drcf ≡ 1000000
+        by : (t : Bool) → eqb (B .constraint j .mode) 1 ≡ t → sumOver (B .unit) (B .header .units) (B .constraint j .id) (λ q. q .dcf) + B .constraint j .drcf ≡ 1_000_000
         by true e = p .factored j l (eqb-true (B .constraint j .mode) 1 e) .dcf
         by false e =
             let d = eqb-false (B .constraint j .mode) 1 e in
@@ -177,15 +177,15 @@ module _ {B : Book} (p : Promise B) where
             p .default j l (omega arith) .dcf
 
     -- the factors of a kind make the amount to recover
-    factors-whole : (kind : Kind) → belongs (B .constraint j) kind ≡ true → poolBy kind (poolsOf (B .constraint j)) * (sumOver (B .unit) (B .header .units) (B .constraint j .id) (minusBy kind) + restMinus kind (B .constraint j)) ≡ poolBy kind (poolsOf (B .constraint j)) * (sumOver (B .unit) (B .header .units) (B .constraint j .id) (plusBy kind) + restPlus kind (B .constraint j)) + 1000000 * recovers (B .constraint j) kind
-    unfolding belongs poolBy plusBy minusBy restPlus restMinus recovers
+    factors-whole : (kind : Kind) → belongs (B .constraint j) kind ≡ true → poolBy kind (poolsOf (B .constraint j)) * (sumOver (B .unit) (B .header .units) (B .constraint j .id) (belowBy kind) + restMinus kind (B .constraint j)) ≡ poolBy kind (poolsOf (B .constraint j)) * (sumOver (B .unit) (B .header .units) (B .constraint j .id) (aboveBy kind) + restPlus kind (B .constraint j)) + 1_000_000 * recovers (B .constraint j) kind
+    unfolding belongs poolBy aboveBy belowBy restPlus restMinus recovers
     factors-whole Contingency h = absurd (live (eqb-true (B .constraint j .mode) 0 h))
     factors-whole Fpp h =
         let w = p .factored j l (eqb-true (B .constraint j .mode) 1 h) in
-        rw (w .minus, w .plus) (omega arith)
+        rw (w .ncf, w .pcf) (omega arith)
     factors-whole Used h =
         let w = p .factored j l (eqb-true (B .constraint j .mode) 1 h) in
-        rw (w .minus, no-factor (B .constraint j .id)) (omega arith)
+        rw (w .ncf, no-factor (B .constraint j .id)) (omega arith)
     factors-whole Unused h = rw (default-whole, no-factor (B .constraint j .id)) (omega arith)
     factors-whole Payment h = omega arith
 
@@ -198,7 +198,7 @@ module _ {B : Book} (p : Promise B) where
     one-stage Unused h = refl
     one-stage Payment h = cc
 
-    regulation-within : OneSided B → (kind : Kind) → belongs (B .constraint j) kind ≡ true → Within (regulationShape B (B .constraint j) kind .lines + stagesOf kind) (recovers (B .constraint j) kind + (unitCredit (B .unit) (B .header .units) (B .constraint j .id) kind (poolBy kind (poolsOf (B .constraint j))) + partSum (partOf (B .entry) (B .constraint j) (creditBy kind (residualOf (B .constraint j) (poolsOf (B .constraint j))))) (B .energy) (B .header .energies))) (unitCharge (B .unit) (B .header .units) (B .constraint j .id) kind (poolBy kind (poolsOf (B .constraint j))) + partSum (partOf (B .entry) (B .constraint j) (chargeBy kind (residualOf (B .constraint j) (poolsOf (B .constraint j))))) (B .energy) (B .header .energies))
+    regulation-within : OneSided B → (kind : Kind) → belongs (B .constraint j) kind ≡ true → HalvesApart (regulationShape B (B .constraint j) kind .lines + stagesOf kind) (recovers (B .constraint j) kind + (unitCredit (B .unit) (B .header .units) (B .constraint j .id) kind (poolBy kind (poolsOf (B .constraint j))) + partSum (partOf (B .entry) (B .constraint j) (creditBy kind (residualPools (B .constraint j) (poolsOf (B .constraint j))))) (B .energy) (B .header .energies))) (unitCharge (B .unit) (B .header .units) (B .constraint j .id) kind (poolBy kind (poolsOf (B .constraint j))) + partSum (partOf (B .entry) (B .constraint j) (chargeBy kind (residualPools (B .constraint j) (poolsOf (B .constraint j))))) (B .energy) (B .header .energies))
     unfolding regulationShape partOf
     regulation-within o kind h =
         let r = B .constraint j in
@@ -216,24 +216,24 @@ module _ {B : Book} (p : Promise B) where
 
   module _ (i : ℕ) (l : i < B .header .contracts) where
     -- the regions' parts, rounded: a half for each region that benefits
-    regions-close : Close (B .contract i .payment) (benefiting (B .contract i)) 0 (total (factorOf (B .contract i .factors)) 5) 0 (total (λ g. roundN (B .contract i .payment * factorOf (B .contract i .factors) g) 1000000) 5)
+    regions-close : Close (B .contract i .payment) (benefiting (B .contract i)) 0 (total (factorOf (B .contract i .factors)) 5) 0 (total (λ g. roundN (B .contract i .payment * factorOf (B .contract i .factors) g) 1_000_000) 5)
     unfolding benefiting total
     regions-close =
         close-total (B .contract i .payment) _ (λ g. 0) _ (λ g. 0) _ 5
         (λ g m. close-unless (B .contract i .payment) (factorOf (B .contract i .factors) g) (eqb (factorOf (B .contract i .factors) g) 0) (eqb-true (factorOf (B .contract i .factors) g) 0))
 
     -- a region's part, halved and shared: a half for each of its lines
-    region-within : (g : ℕ) → g < 5 → Within (cond (eqb (factorOf (B .contract i .factors) g) 0) 0 (2 * length (accountsOf B))) (roundN (B .contract i .payment * factorOf (B .contract i .factors) g) 1000000) (regionSum B (B .contract i) g)
-    unfolding regionSum halvesOf consumedPart sentPart
+    region-within : (g : ℕ) → g < 5 → HalvesApart (cond (eqb (factorOf (B .contract i .factors) g) 0) 0 (2 * length (accountsOf B))) (roundN (B .contract i .payment * factorOf (B .contract i .factors) g) 1_000_000) (regionPaid B (B .contract i) g)
+    unfolding regionPaid halvesOf consumedPart sentPart
     region-within g m = by (eqb (factorOf (B .contract i .factors) g) 0) refl
       where
-        by : (t : Bool) → eqb (factorOf (B .contract i .factors) g) 0 ≡ t → Within (cond t 0 (2 * length (accountsOf B))) (roundN (B .contract i .payment * factorOf (B .contract i .factors) g) 1000000) (cond t 0 (partSum (consumedPart (B .entry) (B .contract i) g) (B .energy) (B .header .energies) + partSum (sentPart (B .entry) (B .contract i) g) (B .energy) (B .header .energies)))
+        by : (t : Bool) → eqb (factorOf (B .contract i .factors) g) 0 ≡ t → HalvesApart (cond t 0 (2 * length (accountsOf B))) (roundN (B .contract i .payment * factorOf (B .contract i .factors) g) 1_000_000) (cond t 0 (partSum (consumedPart (B .entry) (B .contract i) g) (B .energy) (B .header .energies) + partSum (sentPart (B .entry) (B .contract i) g) (B .energy) (B .header .energies)))
         by true e = rw (nothing (B .contract i .payment) _ (eqb-true (factorOf (B .contract i .factors) g) 0 e)) (record { up = omega arith; down = omega arith })
         by false e =
             let d = eqb-false (factorOf (B .contract i .factors) g) 0 e in
             within-halves _ (length (accountsOf B)) (part-within _ (consumed-shareable p i g l m d)) (part-within _ (sent-shareable p i g l m d))
 
-    contract-within : Within (contractShape B (B .contract i) .lines + benefiting (B .contract i)) (B .contract i .payment + 0) (total (regionSum B (B .contract i)) 5)
+    contract-within : HalvesApart (contractShape B (B .contract i) .lines + benefiting (B .contract i)) (B .contract i .payment + 0) (total (regionPaid B (B .contract i)) 5)
     unfolding contractShape benefiting
     contract-within =
         let count = count-times (λ g. eqb (factorOf (B .contract i .factors) g) 0) (2 * length (accountsOf B)) 5 in

@@ -10,16 +10,16 @@ use Rattle.records.specs.declared.rows.Contract.{Contract}
 use Rattle.book.specs.Header.{headerOf}
 use Rattle.book.specs.declared.header.Header.{Header}
 use Rattle.book.specs.Book.{Book, bookIn}
-use Rattle.book.specs.Facts.{Laid}
+use Rattle.book.specs.Inner.Facts.{Laid}
 use Rattle.book.specs.Table.{verdict}
-use Rattle.book.specs.Accepted.{Promise, AcceptedBook}
+use Rattle.book.specs.Inner.Accepted.{Promise, AcceptedBook}
 use Rattle.book.proofs.Promise.{accepted}
 use Rattle.accounts.specs.Account.{publicOf}
 use Rattle.balance.specs.Pools.{constraintPool, contractPool, poolsIn}
-use Rattle.balance.specs.Balance.{balanceIn, answerTo, balancesIn, ifAccepted, balanceOf}
-use Rattle.balance.specs.Places.{PlaceIs}
-use Rattle.balance.specs.Rests.{OfConstraint, OfContract}
-use Rattle.balance.specs.Shapes.{belongs, contingencyShape, regulationShape, contractShape}
+use Rattle.balance.specs.Balance.{balanceIn, answerTo, balancesIn, balanceIf, balanceOf}
+use Rattle.balance.specs.Inner.Places.{PlaceIs}
+use Rattle.balance.specs.Inner.Rests.{OfConstraint, OfContract}
+use Rattle.balance.specs.Inner.Shapes.{belongs, contingencyShape, regulationShape, contractShape}
 use Rattle.balance.specs.declared.Balance.{Balance}
 use Rattle.balance.specs.declared.Balanced.{Balanced}
 use Rattle.balance.specs.declared.Balanced.the-variants as balanced
@@ -33,7 +33,7 @@ use Rattle.balance.proofs.Balances.{contingency-balance, regulation-bal
 
 module _ (b : List ℕ) (number : ℕ) {v : Verdict} (q : v ≡ verdict b) where
   pub end-refused : {n p : ℕ} → v ≡ verdict.Refused n p → balanced.Refused n p ≡ balanceOf b number
-  unfolding balanceOf ifAccepted
+  unfolding balanceOf balanceIf
   end-refused e = rw (sym q ∙ e)
 
   module _ (e : v ≡ verdict.Accepted) where
@@ -47,7 +47,7 @@ module _ (b : List ℕ) (number : ℕ) {v : Verdict} (q : v ≡ verdict b) where
     promised-in i = rw i (given .promise)
 
     pub end-balanced : {h : Header} {x : Balanced} → h ≡ headerOf b → x ≡ balancesIn (bookIn b h) number → x ≡ balanceOf b number
-    unfolding balanceOf ifAccepted
+    unfolding balanceOf balanceIf
     end-balanced i h = rw (sym q ∙ e) (rw i at h)
 
 -- ---- the place

@@ -15,12 +15,12 @@ use Rattle.records.specs.declared.rows.Entry.{Entry}
 use Rattle.records.specs.declared.rows.Constraint.{Constraint}
 use Rattle.records.specs.declared.rows.EnergyRow.{EnergyRow}
 use Rattle.totals.specs.Sums.{regionOf}
-use Rattle.totals.specs.Divisors.{basisOf, shareOf, divisorOf}
-use Rattle.parties.specs.Parties.{byBasis, energyIn}
+use Rattle.totals.specs.Divisors.{basisOf, countedIn, overRegions}
+use Rattle.parties.specs.Inner.Shares.{byBasis, energyIn}
 use Rattle.parties.specs.declared.shares.Basis.{Basis}
 use Rattle.parties.specs.declared.shares.Basis.the-variants.{Ace, Asoe, Residual}
 use Rattle.parties.specs.declared.shares.Part.{Part}
-use Rattle.balance.specs.Shapes.{constraintBasis, partOf}
+use Rattle.balance.specs.Inner.Shapes.{constraintBasis, partOf}
 
 -- ---- sums
 
@@ -100,8 +100,8 @@ module _ {energy : ℕ → EnergyRow} {n : ℕ} {counts : ℕ → Bool} {e : ℕ
       ∙ total-same _ _ n (row-part p)
 
   -- over a constraint's regions
-  pub constraint-energy : (entry : ℕ → Entry) (r : Constraint) (amount : ℕ) → divisorOf e r ≡ total (λ i. cond (counts i) (energyIn (partOf entry r amount) (energy i)) 0) n
-  unfolding shareOf partOf
+  pub constraint-energy : (entry : ℕ → Entry) (r : Constraint) (amount : ℕ) → overRegions e r ≡ total (λ i. cond (counts i) (energyIn (partOf entry r amount) (energy i)) 0) n
+  unfolding countedIn partOf
   constraint-energy entry r amount =
       total-same _ (λ g. cond (bitSet (r .mask) g) (entryBy (constraintBasis r) (e g)) 0) 5 (λ g l. ap (λ (y : ℕ). cond (bitSet (r .mask) g) y 0) (basis-of r (e g)))
       ∙ part-energy (partOf entry r amount)

@@ -16,8 +16,8 @@ use Rattle.ground.proofs.Every.{every}
 use Rattle.accounts.specs.Rows.{rowsOf, concatMap}
 use Rattle.accounts.proofs.Lists.{concat-append}
 use Rattle.balance.specs.Pools.{Pool, past, found, constraintPool, constraintPools, contractPool, poolAt}
-use Rattle.balance.specs.Places.{KindIs, poolsOver, PlaceIs}
-use Rattle.balance.specs.Shapes.{belongs}
+use Rattle.balance.specs.Inner.Places.{KindIs, poolsOver, PlaceIs}
+use Rattle.balance.specs.Inner.Shapes.{belongs}
 use Rattle.balance.specs.declared.kinds.Kind.{Kind}
 use Rattle.balance.specs.declared.kinds.Kind.the-variants.{Contingency, Fpp, Used, Unused}
 use Rattle.balance.specs.declared.places.Place.the-variants as place

@@ -9,19 +9,19 @@ use Rattle.sections.specs.Total.{keyed, totalOf}
 use Rattle.records.specs.declared.rows.Entry.{Entry}
 use Rattle.records.specs.declared.rows.Constraint.{Constraint}
 use Rattle.totals.specs.Sums.{regionOf}
-use Rattle.totals.specs.Divisors.{divisorOf}
-use Rattle.totals.specs.Totals.{entryOf}
+use Rattle.totals.specs.Divisors.{overRegions}
+use Rattle.totals.specs.Inner.Totals.{entryOf}
 use Rattle.totals.specs.declared.entries.Totals.{Totals}
 use Rattle.book.specs.Book.{Book}
-use Rattle.book.specs.Accepted.{Promise}
+use Rattle.book.specs.Inner.Accepted.{Promise}
 use Rattle.accounts.specs.Rows.{rowsOf, sumOf}
 use Rattle.accounts.specs.Account.{rowsOfAccount, ownEnergy}
 use Rattle.accounts.proofs.Lists.{total-rows}
-use Rattle.parties.specs.Parties.{byBasis, ownIn}
+use Rattle.parties.specs.Inner.Shares.{byBasis, ownInPart}
 use Rattle.parties.specs.declared.shares.Basis.{Basis}
 use Rattle.parties.specs.declared.shares.Basis.the-variants.{Ace, Asoe, Residual}
 use Rattle.parties.specs.declared.shares.Part.{Part}
-use Rattle.balance.specs.Shapes.{partOf}
+use Rattle.balance.specs.Inner.Shapes.{partOf}
 use Rattle.balance.proofs.Energy.{choices, entryBy, Counted, constraint-energy, region-energy}
 
 -- the energy of the account's rows in region g
@@ -73,11 +73,11 @@ module _ (B : Book) (a : ℕ) where
 
 module _ {B : Book} (p : Promise B) (a : ℕ) where
   -- over a constraint's regions
-  pub own-constraint : (r : Constraint) (amount : ℕ) → divisorOf (entryOf (ownOf B a)) r ≡ ownIn (partOf (B .entry) r amount) (B .energy) (B .header .energies) a
-  unfolding ownIn
+  pub own-constraint : (r : Constraint) (amount : ℕ) → overRegions (entryOf (ownOf B a)) r ≡ ownInPart (partOf (B .entry) r amount) (B .energy) (B .header .energies) a
+  unfolding ownInPart
   own-constraint r amount = constraint-energy (own-counted B a p) (B .entry) r amount
 
   -- in one region
-  pub own-region : (x : Part) (g : ℕ) → g < 5 → x .mask ≡ 2 ^ g → entryBy (x .basis) (entryOf (ownOf B a) g) ≡ ownIn x (B .energy) (B .header .energies) a
-  unfolding ownIn
+  pub own-region : (x : Part) (g : ℕ) → g < 5 → x .mask ≡ 2 ^ g → entryBy (x .basis) (entryOf (ownOf B a) g) ≡ ownInPart x (B .energy) (B .header .energies) a
+  unfolding ownInPart
   own-region x g l m = region-energy (own-counted B a p) x g l m

@@ -24,16 +24,16 @@ use Rattle.records.specs.declared.rows.EnergyRow.{EnergyRow}
 use Rattle.totals.specs.Sums.{regionOf, aceOf, asoeOf}
 use Rattle.book.specs.Book.{Book, bookIn}
 use Rattle.book.specs.Header.{energiesFrom}
-use Rattle.book.specs.Accepted.{Promise}
+use Rattle.book.specs.Inner.Accepted.{Promise}
 use Rattle.book.specs.declared.header.Header.{Header}
 use Rattle.amounts.specs.Pools.{halvesOf}
 use Rattle.amounts.specs.declared.pools.Halves.{Halves}
-use Rattle.parties.specs.Parties.{byBasis, partSum, Shareable}
+use Rattle.parties.specs.Inner.Shares.{byBasis, partSum, Shareable}
 use Rattle.parties.specs.declared.shares.Part.{Part}
 use Rattle.parties.proofs.Rows.{part-rows}
 use Rattle.balance.specs.Pools.{benefiting}
-use Rattle.balance.specs.Shapes.{consumedPart, sentPart, regionSum}
-use Rattle.balance.specs.Rests.{OfContract, PaidIs, Listed, ListsAre, twoShares, rowPays, Fair, Payable, AllPayable}
+use Rattle.balance.specs.Inner.Shapes.{consumedPart, sentPart, regionPaid}
+use Rattle.balance.specs.Inner.Rests.{OfContract, PaidIs, Listed, ListsAre, twoShares, rowPays, Fair, Payable, AllPayable}
 use Rattle.balance.proofs.Energy.{choice-none, one-region}
 use Rattle.balance.proofs.Shareables.{sorted, consumed-shareable, sent-shareable}
 
@@ -81,11 +81,11 @@ module _ {factors c s a o : List ℕ} {r : EnergyRow} (h : Payable factors c s a
   row-both d p q = rw (ne-eqb (factorOf factors (r .region)) 0 d, p, q)
 
   -- two shares, each of at most a half
-  pub row-small : {x : ℕ} → x ≡ rowPays factors c s a o r → x ≤ 100000000000
+  pub row-small : {x : ℕ} → x ≡ rowPays factors c s a o r → x ≤ 100_000_000_000
   unfolding rowPays
   row-small q = rw q (by (eqb (factorOf factors (r .region)) 0) refl)
     where
-      by : (t : Bool) → eqb (factorOf factors (r .region)) 0 ≡ t → cond t 0 (twoShares (getD c (r .region) 0) (getD s (r .region) 0) (getD a (r .region) 0) (getD o (r .region) 0) r) ≤ 100000000000
+      by : (t : Bool) → eqb (factorOf factors (r .region)) 0 ≡ t → cond t 0 (twoShares (getD c (r .region) 0) (getD s (r .region) 0) (getD a (r .region) 0) (getD o (r .region) 0) r) ≤ 100_000_000_000
       by true e = omega arith
       by false e =
           let x = h .ace (eqb-false _ 0 e) in
@@ -98,14 +98,14 @@ module _ {factors c s a o : List ℕ} {energy : ℕ → EnergyRow} {n : ℕ} (h 
   pay-more d q e = total-more _ i d (e ∙ ap (rowPays factors c s a o) q)
 
   -- 1,024 rows
-  pub pay-small : {t : ℕ} → i ≤ n → t ≡ total (λ i. rowPays factors c s a o (energy i)) i → t ≤ 102400000000000
+  pub pay-small : {t : ℕ} → i ≤ n → t ≡ total (λ i. rowPays factors c s a o (energy i)) i → t ≤ 102_400_000_000_000
   pay-small l e =
-      rw e (omega (arith, total-bound (λ i. rowPays factors c s a o (energy i)) 100000000000 i (λ k m. row-small (h .row k (omega arith)) refl)))
+      rw e (omega (arith, total-bound (λ i. rowPays factors c s a o (energy i)) 100_000_000_000 i (λ k m. row-small (h .row k (omega arith)) refl)))
 
 -- ---- a contract of an accepted book
 
 module _ {B : Book} (p : Promise B) (k : Contract) (o : OfContract B k) where
-  pub halves-fit : (g : ℕ) → g < 5 → (k .payment ≤ 50000000000) × (factorOf (k .factors) g ≤ 1000000)
+  pub halves-fit : (g : ℕ) → g < 5 → (k .payment ≤ 50_000_000_000) × (factorOf (k .factors) g ≤ 1_000_000)
   halves-fit g m = rw (o .same) ((p .fields .contracts (o .place) (o .within) .payment, p .fields .contracts (o .place) (o .within) .factor g m))
 
   low : (i : ℕ) → i < B .header .energies → B .energy i .region < 5
@@ -124,8 +124,8 @@ module _ {B : Book} (p : Promise B) (k : Contract) (o : OfContract B k) where
   one g m i l = one-region g (B .energy i .region) m (low i l)
 
   -- what all accounts pay in region g is what its rows pay
-  region-rows : (g : ℕ) → g < 5 → regionSum B k g ≡ totalOf (regionOf (B .energy)) g (λ i. paid g (B .energy i)) (B .header .energies)
-  unfolding regionSum consumedPart sentPart byBasis paid keyed
+  region-rows : (g : ℕ) → g < 5 → regionPaid B k g ≡ totalOf (regionOf (B .energy)) g (λ i. paid g (B .energy i)) (B .header .energies)
+  unfolding regionPaid consumedPart sentPart byBasis paid keyed
   region-rows g m = by (eqb (factorOf (k .factors) g) 0)
     where
       by : (t : Bool) → cond t 0 (partSum (consumedPart (B .entry) k g) (B .energy) (B .header .energies) + partSum (sentPart (B .entry) k g) (B .energy) (B .header .energies)) ≡ totalOf (regionOf (B .energy)) g (λ i. cond t 0 (sharesIn g (B .energy i))) (B .header .energies)
@@ -135,7 +135,7 @@ module _ {B : Book} (p : Promise B) (k : Contract) (o : OfContract B k) where
           ∙ sym (keyed-plus _ g _ _ (B .header .energies))
 
   -- and over all regions it is what each row pays in its own
-  all-rows : total (regionSum B k) 5 ≡ total (λ i. paid (B .energy i .region) (B .energy i)) (B .header .energies)
+  all-rows : total (regionPaid B k) 5 ≡ total (λ i. paid (B .energy i .region) (B .energy i)) (B .header .energies)
   all-rows =
       total-same _ _ 5 region-rows
       ∙ total-swap (λ g i. keyed (regionOf (B .energy)) g (λ i. paid g (B .energy i)) i) (B .header .energies) 5
@@ -166,7 +166,7 @@ module _ {B : Book} (p : Promise B) (k : Contract) (o : OfContract B k) where
 
   -- c and s have the halves of the payment, a and t the totals
   module _ {c s a t : List ℕ} (l : ListsAre B k 5 c s a t) where
-    pub rows-pay : total (λ i. rowPays (k .factors) c s a t (B .energy i)) (B .header .energies) ≡ total (regionSum B k) 5
+    pub rows-pay : total (λ i. rowPays (k .factors) c s a t (B .energy i)) (B .header .energies) ≡ total (regionPaid B k) 5
     unfolding rowPays paid
     rows-pay =
         total-same _ _ (B .header .energies) (λ i m. let h = low i m in rw (l .consumed .each _ h, l .sent .each _ h, l .ace .each _ h, l .asoe .each _ h))
@@ -192,7 +192,7 @@ module _ (b : List ℕ) (h : Header) (e : ℕ) (q : e ≡ energiesFrom h) (p : P
   pub payable-at : AllPayable (k .factors) c s a t (energyRow (partFrom e b)) (h .energies)
   payable-at = rw q (all-payable p k o l)
 
-  pub charges-are : {x : ℕ} → (x ≡ total (λ i. rowPays (k .factors) c s a t (energyRow (partFrom e b) i)) (h .energies)) × (x ≤ 102400000000000) → (x ≡ total (regionSum (bookIn b h) k) 5) × (x ≤ 102400000000000)
+  pub charges-are : {x : ℕ} → (x ≡ total (λ i. rowPays (k .factors) c s a t (energyRow (partFrom e b) i)) (h .energies)) × (x ≤ 102_400_000_000_000) → (x ≡ total (regionPaid (bookIn b h) k) 5) × (x ≤ 102_400_000_000_000)
   charges-are w = (rw q at (w .0) ∙ rows-pay p k o l, w .1)
 
 -- ---- how many regions benefit, and what is paid in all
@@ -201,7 +201,7 @@ module _ (b : List ℕ) (h : Header) (e : ℕ) (q : e ≡ energiesFrom h) (p : P
 abbrev Benefit : ℕ → ℕ → Type 0
 Benefit factor x = (x ≡ cond (eqb factor 0) 0 1) × (x ≤ 1)
 
-pub paid-is : (B : Book) (k : Contract) {u v w x y z : ℕ} → Benefit (factorOf (k .factors) 0) u → Benefit (factorOf (k .factors) 1) v → Benefit (factorOf (k .factors) 2) w → Benefit (factorOf (k .factors) 3) x → Benefit (factorOf (k .factors) 4) y → (z ≡ total (regionSum B k) 5) × (z ≤ 102400000000000) → PaidIs B k (record { regions = u + v + w + x + y; charge = z })
+pub paid-is : (B : Book) (k : Contract) {u v w x y z : ℕ} → Benefit (factorOf (k .factors) 0) u → Benefit (factorOf (k .factors) 1) v → Benefit (factorOf (k .factors) 2) w → Benefit (factorOf (k .factors) 3) x → Benefit (factorOf (k .factors) 4) y → (z ≡ total (regionPaid B k) 5) × (z ≤ 102_400_000_000_000) → PaidIs B k (record { regions = u + v + w + x + y; charge = z })
 unfolding benefiting
 paid-is B k u v w x y z =
     record { regions = rw (u .0, v .0, w .0, x .0, y .0) (sym (total-five _)); charge = z .0; few = omega arith; small = z .1 }

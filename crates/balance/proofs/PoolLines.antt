@@ -19,24 +19,24 @@ use Rattle.records.specs.declared.rows.Constraint.{Constraint}
 use Rattle.records.specs.declared.rows.UnitRow.{UnitRow}
 use Rattle.records.specs.declared.rows.Contract.{Contract}
 use Rattle.factors.specs.Naming.{idOf, keyOf}
-use Rattle.totals.specs.Divisors.{divisorOf}
-use Rattle.totals.specs.Totals.{entryOf}
+use Rattle.totals.specs.Divisors.{overRegions}
+use Rattle.totals.specs.Inner.Totals.{entryOf}
 use Rattle.book.specs.Book.{Book}
-use Rattle.book.specs.Accepted.{Promise}
-use Rattle.amounts.specs.Pools.{poolsOf, residualOf, halvesOf}
+use Rattle.book.specs.Inner.Accepted.{Promise}
+use Rattle.amounts.specs.Pools.{poolsOf, residualPools, halvesOf}
 use Rattle.amounts.specs.Shares.{byFactor, byEnergy}
 use Rattle.amounts.specs.declared.pools.Pools.{Pools}
 use Rattle.amounts.specs.declared.pools.Residual.{Residual}
 use Rattle.accounts.specs.Account.{publicOf, rowsOfAccount}
-use Rattle.parties.specs.Parties.{shareIn}
+use Rattle.parties.specs.Inner.Shares.{shareIn}
 use Rattle.statement.specs.declared.Line.{Line}
 use Rattle.lines.specs.Lines.{contingencyLine, unitLines, restLines, regionLines}
 use Rattle.settlement.specs.Settle.{linesOf}
-use Rattle.walk.specs.Walks.{ownLines, unitLinesAt, conLines, conLinesAt, contractLinesAt, bookLines}
+use Rattle.walk.specs.Inner.Walks.{ownLines, unitLinesAt, conLines, conLinesAt, contractLinesAt, bookLines}
 use Rattle.settlement.proofs.Link.{lines-link}
 use Rattle.walk.proofs.Order.{rises-once}
 use Rattle.balance.specs.Pools.{Pool, constraintPool, contractPool, hasPart, inPool}
-use Rattle.balance.specs.Shapes.{belongs, plusBy, minusBy, poolBy, creditBy, chargeBy, partOf, consumedPart, sentPart}
+use Rattle.balance.specs.Inner.Shapes.{belongs, aboveBy, belowBy, poolBy, creditBy, chargeBy, partOf, consumedPart, sentPart}
 use Rattle.balance.specs.declared.kinds.Kind.{Kind}
 use Rattle.balance.specs.declared.kinds.Kind.the-variants.{Contingency, Fpp, Used, Unused, Payment}
 use Rattle.balance.proofs.Energy.{entryBy}
@@ -143,8 +143,8 @@ module _ (r : Constraint) where
       part false = refl
 
   -- of a unit row
-  unit-kept : (kind : Kind) → (r .mode ≡ 0 → ⊥) → belongs r kind ≡ true → (p : Pools) (q : UnitRow) → Kept (inPool (constraintPool r kind)) (unitLines r p q) 1 (roundN (poolBy kind p * plusBy kind q) 1000000) (roundN (poolBy kind p * minusBy kind q) 1000000)
-  unfolding belongs unitLines poolBy plusBy minusBy byFactor
+  unit-kept : (kind : Kind) → (r .mode ≡ 0 → ⊥) → belongs r kind ≡ true → (p : Pools) (q : UnitRow) → Kept (inPool (constraintPool r kind)) (unitLines r p q) 1 (roundN (poolBy kind p * aboveBy kind q) 1_000_000) (roundN (poolBy kind p * belowBy kind q) 1_000_000)
+  unfolding belongs unitLines poolBy aboveBy belowBy byFactor
   unit-kept Contingency live h p q = absurd (live (eqb-true (r .mode) 0 h))
   unit-kept Fpp live h p q = rw h (first-kept (its Fpp _ refl) (its Fpp _ refl) (its Fpp _ refl) refl)
   unit-kept Used live h p q = rw h (second-kept (its Used _ refl) (its Used _ refl) (its Used _ refl) refl)
@@ -214,9 +214,9 @@ module _ {B : Book} (p : Promise B) (a : ℕ) where
 
   -- ---- shares
 
-  constraint-share : (r : Constraint) (amount : ℕ) → roundN (amount * divisorOf (entryOf (ownOf B a)) r) (divisorOf (B .entry) r) ≡ constraintShare B a r amount
+  constraint-share : (r : Constraint) (amount : ℕ) → roundN (amount * overRegions (entryOf (ownOf B a)) r) (overRegions (B .entry) r) ≡ constraintShare B a r amount
   unfolding shareIn partOf
-  constraint-share r amount = ap (λ (x : ℕ). roundN (amount * x) (divisorOf (B .entry) r)) (own-constraint p a r amount)
+  constraint-share r amount = ap (λ (x : ℕ). roundN (amount * x) (overRegions (B .entry) r)) (own-constraint p a r amount)
 
   region-shares : (k : Contract) (g : ℕ) → g < 5 → roundN (halvesOf (k .payment) (factorOf (k .factors) g) .consumed * entryOf (ownOf B a) g .ace) (B .entry g .ace) + roundN (halvesOf (k .payment) (factorOf (k .factors) g) .sent * entryOf (ownOf B a) g .asoe) (B .entry g .asoe) ≡ regionShare B a k g
   unfolding shareIn consumedPart sentPart entryBy
@@ -234,11 +234,11 @@ module _ {B : Book} (p : Promise B) (a : ℕ) where
       (rw (eq-eqb (B .constraint j .mode) 0 e, ← constraint-share (B .constraint j) (B .constraint j .cost)) (contingency-kept (B .constraint j) _ _))
 
   -- a line of each of the account's unit rows that name the constraint, and one of the residual
-  pub regulation-lines : (j : ℕ) (kind : Kind) → j < B .header .constraints → (B .constraint j .mode ≡ 0 → ⊥) → belongs (B .constraint j) kind ≡ true → Kept (inPool (constraintPool (B .constraint j) kind)) (linesOf (publicOf B) (rowsOfAccount B a)) (ownUnits B a (B .constraint j .id) (λ q. 1) + 1) (ownUnits B a (B .constraint j .id) (λ q. roundN (poolBy kind (poolsOf (B .constraint j)) * plusBy kind q) 1000000) + constraintShare B a (B .constraint j) (creditBy kind (residualOf (B .constraint j) (poolsOf (B .constraint j))))) (ownUnits B a (B .constraint j .id) (λ q. roundN (poolBy kind (poolsOf (B .constraint j)) * minusBy kind q) 1000000) + constraintShare B a (B .constraint j) (chargeBy kind (residualOf (B .constraint j) (poolsOf (B .constraint j)))))
+  pub regulation-lines : (j : ℕ) (kind : Kind) → j < B .header .constraints → (B .constraint j .mode ≡ 0 → ⊥) → belongs (B .constraint j) kind ≡ true → Kept (inPool (constraintPool (B .constraint j) kind)) (linesOf (publicOf B) (rowsOfAccount B a)) (ownUnits B a (B .constraint j .id) (λ q. 1) + 1) (ownUnits B a (B .constraint j .id) (λ q. roundN (poolBy kind (poolsOf (B .constraint j)) * aboveBy kind q) 1_000_000) + constraintShare B a (B .constraint j) (creditBy kind (residualPools (B .constraint j) (poolsOf (B .constraint j))))) (ownUnits B a (B .constraint j .id) (λ q. roundN (poolBy kind (poolsOf (B .constraint j)) * belowBy kind q) 1_000_000) + constraintShare B a (B .constraint j) (chargeBy kind (residualPools (B .constraint j) (poolsOf (B .constraint j)))))
   unfolding belongs conLinesAt conLines unitLinesAt ownLines ownUnits keyed
   regulation-lines j kind l live h =
       constraint-kept j kind l (λ q. not-paid (rw q at h))
-      (rw (ne-eqb (B .constraint j .mode) 0 live, ← constraint-share (B .constraint j) (creditBy kind (residualOf (B .constraint j) (poolsOf (B .constraint j)))), ← constraint-share (B .constraint j) (chargeBy kind (residualOf (B .constraint j) (poolsOf (B .constraint j)))))
+      (rw (ne-eqb (B .constraint j .mode) 0 live, ← constraint-share (B .constraint j) (creditBy kind (residualPools (B .constraint j) (poolsOf (B .constraint j)))), ← constraint-share (B .constraint j) (chargeBy kind (residualPools (B .constraint j) (poolsOf (B .constraint j)))))
       (kept-append
       (kept-joined _ _ _ _ (B .header .units) (λ u m. kept-both (eqb (B .unit u .account) a) (eqb (keyOf (B .unit) u) (B .constraint j .id)) (unit-kept (B .constraint j) kind live h (poolsOf (B .constraint j)) (B .unit u))))
       (rest-kept (B .constraint j) kind live h _ _ _)))

@@ -9,27 +9,28 @@ use lib.ListN.{length}
 use Rattle.ground.specs.Bytes.{partFrom}
 use Rattle.ground.specs.Sign.{less}
 use Rattle.records.specs.Rows.{unitRow, energyRow}
-use Rattle.records.specs.Facts.{ConstraintRule}
+use Rattle.records.specs.Inner.Facts.{ConstraintRule}
 use Rattle.market.specs.Kinds.{raises, regulates}
 use Rattle.records.specs.declared.rows.Constraint.{Constraint}
 use Rattle.records.specs.declared.rows.Contract.{Contract}
-use Rattle.totals.specs.Divisors.{divisorOf}
+use Rattle.totals.specs.Divisors.{overRegions}
 use Rattle.book.specs.Book.{Book, bookIn}
 use Rattle.book.specs.Header.{unitsFrom, energiesFrom}
-use Rattle.book.specs.Accepted.{Promise}
+use Rattle.book.specs.Inner.Accepted.{Promise}
 use Rattle.book.specs.declared.header.Header.{Header}
-use Rattle.amounts.specs.Bounds.{SmallPools}
+use Rattle.amounts.specs.Inner.Bounds.{SmallPools}
 use Rattle.amounts.specs.Pools.{poolsOf}
 use Rattle.amounts.specs.declared.pools.Pools.{Pools}
 use Rattle.amounts.proofs.Sizes.{pools-small, residual-small}
-use Rattle.parties.specs.Parties.{accountsIn, partSum, Sorted, Shareable}
+use Rattle.parties.specs.Parties.{accountsIn}
+use Rattle.parties.specs.Inner.Shares.{partSum, Sorted, Shareable}
 use Rattle.parties.specs.declared.shares.Basis.{Basis}
 use Rattle.parties.specs.declared.shares.Basis.the-variants as basis
 use Rattle.parties.specs.declared.shares.Part.{Part}
 use Rattle.balance.specs.Pools.{recovers}
-use Rattle.balance.specs.Shapes.{poolBy, recoveryOf, constraintBasis, partOf, contingencyShape, regulationShape, contractShape}
-use Rattle.balance.specs.Units.{SumsAre}
-use Rattle.balance.specs.Rests.{OfConstraint, OfContract, Counted, PartIs, PaidIs}
+use Rattle.balance.specs.Inner.Shapes.{poolBy, recoveryOf, constraintBasis, partOf, contingencyShape, regulationShape, contractShape}
+use Rattle.balance.specs.Inner.Units.{SumsAre}
+use Rattle.balance.specs.Inner.Rests.{OfConstraint, OfContract, Counted, PartIs, PaidIs}
 use Rattle.balance.specs.declared.kinds.Kind.{Kind}
 use Rattle.balance.specs.declared.kinds.Kind.the-variants.{Contingency, Fpp, Used, Unused, Payment}
 use Rattle.balance.specs.declared.kinds.Recovery.{Recovery}
@@ -46,7 +47,7 @@ module _ (b : List ℕ) (h : Header) (e : ℕ) (q : e ≡ energiesFrom h) where
   pub shareable-at : (p : Part) → Shareable p (bookIn b h .energy) (h .energies) → Shareable p (energyRow (partFrom e b)) (h .energies)
   shareable-at p s = rw q s
 
-  pub shared-is : (p : Part) {x : ℕ} → (x ≡ partSum p (energyRow (partFrom e b)) (h .energies)) × (x ≤ 51200000000000) → (x ≡ partSum p (bookIn b h .energy) (h .energies)) × (x ≤ 51200000000000)
+  pub shared-is : (p : Part) {x : ℕ} → (x ≡ partSum p (energyRow (partFrom e b)) (h .energies)) × (x ≤ 51_200_000_000_000) → (x ≡ partSum p (bookIn b h .energy) (h .energies)) × (x ≤ 51_200_000_000_000)
   shared-is p s = (rw q at (s .0), s .1)
 
   pub counted-is : (u : ℕ) → u ≡ unitsFrom h → {c : ℕ} → (c ≡ length (accountsIn (energyRow (partFrom e b)) (h .energies) (unitRow (partFrom u b)) (h .units))) × (c ≤ 1624) → Counted (bookIn b h) c
@@ -73,20 +74,20 @@ module _ {B : Book} (p : Promise B) (r : Constraint) (o : OfConstraint B r) wher
   pub constraint-rule : ConstraintRule r
   constraint-rule = rw (o .same) (p .fields .constraints (o .place) (o .within))
 
-  module _ (amount whole : ℕ) (basis : Basis) (w : whole ≡ divisorOf (B .entry) r) (e : basis ≡ constraintBasis r) where
+  module _ (amount whole : ℕ) (basis : Basis) (w : whole ≡ overRegions (B .entry) r) (e : basis ≡ constraintBasis r) where
     part-is : record { amount = amount; whole = whole; mask = r .mask; basis = basis } ≡ partOf (B .entry) r amount
     unfolding partOf
     part-is = rw (w, e)
 
-    pub over-shareable : amount ≤ 50000000000 → Shareable (record { amount = amount; whole = whole; mask = r .mask; basis = basis }) (B .energy) (B .header .energies)
+    pub over-shareable : amount ≤ 50_000_000_000 → Shareable (record { amount = amount; whole = whole; mask = r .mask; basis = basis }) (B .energy) (B .header .energies)
     over-shareable s = rw part-is (rw (o .same) (constraint-shareable p (o .place) (o .within) amount s))
 
-    pub over-is : {x : ℕ} → (x ≡ partSum (record { amount = amount; whole = whole; mask = r .mask; basis = basis }) (B .energy) (B .header .energies)) × (x ≤ 51200000000000) → PartIs B r amount x
+    pub over-is : {x : ℕ} → (x ≡ partSum (record { amount = amount; whole = whole; mask = r .mask; basis = basis }) (B .energy) (B .header .energies)) × (x ≤ 51_200_000_000_000) → PartIs B r amount x
     over-is s = record { sum = rw part-is at (s .0); small = s .1 }
 
 -- ---- what a regulation pool rests on is small
 
-pool-low : (q : Pools) (kind : Kind) → SmallPools q → poolBy kind q ≤ 50000000000
+pool-low : (q : Pools) (kind : Kind) → SmallPools q → poolBy kind q ≤ 50_000_000_000
 unfolding poolBy
 pool-low q Contingency s = omega arith
 pool-low q Fpp s = s .fpp
@@ -94,7 +95,7 @@ pool-low q Used s = s .used
 pool-low q Unused s = s .unused
 pool-low q Payment s = omega arith
 
-recovers-low : (r : Constraint) (kind : Kind) → ConstraintRule r → SmallPools (poolsOf r) → recovers r kind ≤ 50000000000
+recovers-low : (r : Constraint) (kind : Kind) → ConstraintRule r → SmallPools (poolsOf r) → recovers r kind ≤ 50_000_000_000
 unfolding recovers
 recovers-low r Contingency c s = c .cost
 recovers-low r Fpp c s = omega arith
@@ -103,10 +104,10 @@ recovers-low r Unused c s = s .unused
 recovers-low r Payment c s = omega arith
 
 pub record SmallRecovery (x : Recovery) : Type 0 where
-  pub amount : x .amount ≤ 50000000000
-  pub pool : x .pool ≤ 50000000000
-  pub credit : x .credit ≤ 50000000000
-  pub charge : x .charge ≤ 50000000000
+  pub amount : x .amount ≤ 50_000_000_000
+  pub pool : x .pool ≤ 50_000_000_000
+  pub credit : x .credit ≤ 50_000_000_000
+  pub charge : x .charge ≤ 50_000_000_000
 
 pub recovery-small : (r : Constraint) (kind : Kind) {x : Recovery} → ConstraintRule r → x ≡ recoveryOf r kind → SmallRecovery x
 unfolding recoveryOf
@@ -127,7 +128,7 @@ module _ (B : Book) (count : ℕ) (n : Counted B count) where
     unfolding regulationShape recoveryOf
     regulation-is kind x e u y z a s = rw (a, s, n .all, u .rows, u .credit, u .charge, y .sum, z .sum, e)
 
-  pub contract-payment : Promise B → (k : Contract) → OfContract B k → k .payment ≤ 50000000000
+  pub contract-payment : Promise B → (k : Contract) → OfContract B k → k .payment ≤ 50_000_000_000
   contract-payment p k o = rw (o .same) (p .fields .contracts (o .place) (o .within) .payment)
 
   pub contract-is : (k : Contract) {x : Paid} → PaidIs B k x → {a s : ℤ} → a ≡ pos (k .payment) → s ≡ less 0 (x .charge) → record { amount = a; lines = x .regions * (2 * count); sum = s } ≡ contractShape B k

@@ -7,25 +7,25 @@ use Rattle.sections.specs.Total.{totalOf}
 use Rattle.sections.proofs.Total.{total-bound}
 use Rattle.records.specs.Rules.{factorOf}
 use Rattle.totals.specs.Sums.{regionOf}
-use Rattle.totals.specs.Divisors.{shareOf}
+use Rattle.totals.specs.Divisors.{countedIn}
 use Rattle.totals.proofs.Turns.{share-small}
 use Rattle.book.specs.Book.{Book}
-use Rattle.book.specs.Accepted.{Promise}
-use Rattle.amounts.specs.Bounds.{SmallResidual, SmallHalves}
-use Rattle.amounts.specs.Pools.{poolsOf, residualOf, halvesOf}
+use Rattle.book.specs.Inner.Accepted.{Promise}
+use Rattle.amounts.specs.Inner.Bounds.{SmallResidual, SmallHalves}
+use Rattle.amounts.specs.Pools.{poolsOf, residualPools, halvesOf}
 use Rattle.amounts.specs.declared.pools.Residual.{Residual}
 use Rattle.amounts.proofs.Sizes.{pools-small, residual-small, halves-small}
-use Rattle.parties.specs.Parties.{byBasis, Sorted, Shareable}
+use Rattle.parties.specs.Inner.Shares.{byBasis, Sorted, Shareable}
 use Rattle.parties.specs.declared.shares.Basis.{Basis}
 use Rattle.parties.specs.declared.shares.Basis.the-variants as basis
-use Rattle.balance.specs.Shapes.{creditBy, chargeBy, partOf, consumedPart, sentPart}
+use Rattle.balance.specs.Inner.Shapes.{creditBy, chargeBy, partOf, consumedPart, sentPart}
 use Rattle.balance.specs.declared.kinds.Kind.{Kind}
 use Rattle.balance.specs.declared.kinds.Kind.the-variants.{Contingency, Fpp, Used, Unused, Payment}
 use Rattle.balance.proofs.Energy.{entryBy, Counted, constraint-energy, region-energy}
 
 -- ---- what is small of a residual pool is so of either of its sides, whichever the kind
 
-pub credit-low : (x : Residual) (kind : Kind) → SmallResidual x → creditBy kind x ≤ 50000000000
+pub credit-low : (x : Residual) (kind : Kind) → SmallResidual x → creditBy kind x ≤ 50_000_000_000
 unfolding creditBy
 credit-low x Contingency s = omega arith
 credit-low x Fpp s = s .credit
@@ -33,7 +33,7 @@ credit-low x Used s = omega arith
 credit-low x Unused s = omega arith
 credit-low x Payment s = omega arith
 
-pub charge-low : (x : Residual) (kind : Kind) → SmallResidual x → chargeBy kind x ≤ 50000000000
+pub charge-low : (x : Residual) (kind : Kind) → SmallResidual x → chargeBy kind x ≤ 50_000_000_000
 unfolding chargeBy
 charge-low x Contingency s = omega arith
 charge-low x Fpp s = s .charge
@@ -59,13 +59,13 @@ module _ {B : Book} (p : Promise B) where
       by basis.Residual g l = p .entry g l .residual
 
   -- an amount over a constraint's regions
-  pub constraint-shareable : (j : ℕ) → j < B .header .constraints → (amount : ℕ) → amount ≤ 50000000000 → Shareable (partOf (B .entry) (B .constraint j) amount) (B .energy) (B .header .energies)
+  pub constraint-shareable : (j : ℕ) → j < B .header .constraints → (amount : ℕ) → amount ≤ 50_000_000_000 → Shareable (partOf (B .entry) (B .constraint j) amount) (B .energy) (B .header .energies)
   unfolding partOf
   constraint-shareable j l amount small =
       record {
         whole = constraint-energy entry-counted (B .entry) (B .constraint j) amount;
         above = p .divisor j l;
-        below = omega (arith, total-bound (λ g. shareOf (B .constraint j) (B .entry g) g) 20000000 5 (λ g b. share-small (B .constraint j) (B .entry g) g (p .fields .entries g b)));
+        below = omega (arith, total-bound (λ g. countedIn (B .constraint j) (B .entry g) g) 20_000_000 5 (λ g b. share-small (B .constraint j) (B .entry g) g (p .fields .entries g b)));
         small = small;
       }
 
@@ -74,14 +74,14 @@ module _ {B : Book} (p : Promise B) where
     pub cost-shareable : Shareable (partOf (B .entry) (B .constraint j) (B .constraint j .cost)) (B .energy) (B .header .energies)
     cost-shareable = constraint-shareable j l _ (p .fields .constraints j l .cost)
 
-    residual-low : SmallResidual (residualOf (B .constraint j) (poolsOf (B .constraint j)))
+    residual-low : SmallResidual (residualPools (B .constraint j) (poolsOf (B .constraint j)))
     residual-low = let h = p .fields .constraints j l in residual-small (B .constraint j) _ h (pools-small (B .constraint j) h)
 
     -- either side of its residual pool
-    pub credit-shareable : (kind : Kind) → Shareable (partOf (B .entry) (B .constraint j) (creditBy kind (residualOf (B .constraint j) (poolsOf (B .constraint j))))) (B .energy) (B .header .energies)
+    pub credit-shareable : (kind : Kind) → Shareable (partOf (B .entry) (B .constraint j) (creditBy kind (residualPools (B .constraint j) (poolsOf (B .constraint j))))) (B .energy) (B .header .energies)
     credit-shareable kind = constraint-shareable j l _ (credit-low _ kind residual-low)
 
-    pub charge-shareable : (kind : Kind) → Shareable (partOf (B .entry) (B .constraint j) (chargeBy kind (residualOf (B .constraint j) (poolsOf (B .constraint j))))) (B .energy) (B .header .energies)
+    pub charge-shareable : (kind : Kind) → Shareable (partOf (B .entry) (B .constraint j) (chargeBy kind (residualPools (B .constraint j) (poolsOf (B .constraint j))))) (B .energy) (B .header .energies)
     charge-shareable kind = constraint-shareable j l _ (charge-low _ kind residual-low)
 
   module _ (i g : ℕ) (l : i < B .header .contracts) (m : g < 5) (d : factorOf (B .contract i .factors) g ≡ 0 → ⊥) where

@@ -5,14 +5,14 @@ use mathlib.Core.Bool.{Bool, true, false}
 use native.Mathlib.Omega.{arith}
 use Rattle.ground.specs.Round.{roundN}
 use Rattle.ground.proofs.Rounding.{round-share}
-use Rattle.sections.specs.Walk.{Stands, atKey}
+use Rattle.sections.specs.Inner.Walk.{Stands, atKey}
 use Rattle.sections.proofs.Walk.{Run, run-start, run-next, run-over, at-key, sum-start, sum-more, sum-past}
-use Rattle.records.specs.Facts.{UnitRule}
+use Rattle.records.specs.Inner.Facts.{UnitRule}
 use Rattle.records.specs.declared.rows.UnitRow.{UnitRow}
 use Rattle.factors.specs.Naming.{keyOf}
-use Rattle.factors.specs.Runs.{Walked}
-use Rattle.balance.specs.Shapes.{plusBy, minusBy, unitRows, unitCredit, unitCharge}
-use Rattle.balance.specs.Units.{RowAdded, SumsAre}
+use Rattle.factors.specs.Inner.Runs.{Walked}
+use Rattle.balance.specs.Inner.Shapes.{aboveBy, belowBy, unitRows, unitCredit, unitCharge}
+use Rattle.balance.specs.Inner.Units.{RowAdded, SumsAre}
 use Rattle.balance.specs.declared.kinds.Kind.{Kind}
 use Rattle.balance.specs.declared.kinds.Kind.the-variants.{Contingency, Fpp, Used, Unused, Payment}
 use Rattle.balance.specs.declared.units.UnitSums.{UnitSums}
@@ -20,21 +20,21 @@ use Rattle.balance.specs.declared.units.UnitSums.{UnitSums}
 -- ---- one row
 
 -- a factor is at most a whole
-pub plus-small : (kind : Kind) (q : UnitRow) → UnitRule q → plusBy kind q ≤ 1000000
-unfolding plusBy
-plus-small Contingency q u = omega arith
-plus-small Fpp q u = u .plus
-plus-small Used q u = omega arith
-plus-small Unused q u = omega arith
-plus-small Payment q u = omega arith
+pub above-small : (kind : Kind) (q : UnitRow) → UnitRule q → aboveBy kind q ≤ 1_000_000
+unfolding aboveBy
+above-small Contingency q u = omega arith
+above-small Fpp q u = u .pcf
+above-small Used q u = omega arith
+above-small Unused q u = omega arith
+above-small Payment q u = omega arith
 
-pub minus-small : (kind : Kind) (q : UnitRow) → UnitRule q → minusBy kind q ≤ 1000000
-unfolding minusBy
-minus-small Contingency q u = omega arith
-minus-small Fpp q u = u .minus
-minus-small Used q u = u .minus
-minus-small Unused q u = u .dcf
-minus-small Payment q u = omega arith
+pub below-small : (kind : Kind) (q : UnitRow) → UnitRule q → belowBy kind q ≤ 1_000_000
+unfolding belowBy
+below-small Contingency q u = omega arith
+below-small Fpp q u = u .ncf
+below-small Used q u = u .ncf
+below-small Unused q u = u .dcf
+below-small Payment q u = omega arith
 
 -- ---- the constraint's rows
 
@@ -67,11 +67,11 @@ module _ (unit : ℕ → UnitRow) (m id : ℕ) (kind : Kind) (pool : ℕ) where
     row-at = at-key (keyOf unit) m id u (rw e at a)
 
     -- q is row u
-    module _ {q : UnitRow} (i : q ≡ unit u) (w : Walked unit m) (small : pool ≤ 50000000000) where
+    module _ {q : UnitRow} (i : q ≡ unit u) (w : Walked unit m) (small : pool ≤ 50_000_000_000) where
       row-rule : UnitRule q
       row-rule = rw i (w .rules u (row-at .0))
 
-      pub row-room : UnitRule q × ((pool ≤ 50000000000) × ((x .rows < 600) × ((x .credit ≤ 30000000000000) × (x .charge ≤ 30000000000000))))
+      pub row-room : UnitRule q × ((pool ≤ 50_000_000_000) × ((x .rows < 600) × ((x .credit ≤ 30_000_000_000_000) × (x .charge ≤ 30_000_000_000_000))))
       row-room =
           let few = w .few in
           let l = row-at .0 in
@@ -86,13 +86,13 @@ module _ (unit : ℕ → UnitRow) (m id : ℕ) (kind : Kind) (pool : ℕ) where
             sums = record {
               within = omega (arith, row-at .0);
               rows = rw (p .rows) (sum-more _ m id _ u (h .sums .rows) (row-at .1) refl);
-              credit = rw (p .credit) (sum-more _ m id _ u (h .sums .credit) (row-at .1) (ap (λ (q : UnitRow). roundN (pool * plusBy kind q) 1000000) i));
-              charge = rw (p .charge) (sum-more _ m id _ u (h .sums .charge) (row-at .1) (ap (λ (q : UnitRow). roundN (pool * minusBy kind q) 1000000) i));
+              credit = rw (p .credit) (sum-more _ m id _ u (h .sums .credit) (row-at .1) (ap (λ (q : UnitRow). roundN (pool * aboveBy kind q) 1_000_000) i));
+              charge = rw (p .charge) (sum-more _ m id _ u (h .sums .charge) (row-at .1) (ap (λ (q : UnitRow). roundN (pool * belowBy kind q) 1_000_000) i));
               few = omega (arith, p .rows, h .sums .few);
               credit-small =
-                  omega (arith, p .credit, h .sums .credit-small, round-share pool (plusBy kind q) 1000000 (plus-small kind q row-rule));
+                  omega (arith, p .credit, h .sums .credit-small, round-share pool (aboveBy kind q) 1_000_000 (above-small kind q row-rule));
               charge-small =
-                  omega (arith, p .charge, h .sums .charge-small, round-share pool (minusBy kind q) 1000000 (minus-small kind q row-rule));
+                  omega (arith, p .charge, h .sums .charge-small, round-share pool (belowBy kind q) 1_000_000 (below-small kind q row-rule));
             };
           }
 

@@ -52,9 +52,9 @@ unfoldable pub balancesIn : Book → ℕ → Balanced
 balancesIn B number = answerTo B (poolAt (poolsIn (publicOf B)) number)
 
 -- "Numbers 1 to 10 come from every call on a book. A statement then looks for 11, 12, 13, a balance for 15."
-unfoldable pub ifAccepted : Verdict → Balanced → Balanced
-ifAccepted verdict.Accepted x = x
-ifAccepted (verdict.Refused number place) x = balanced.Refused number place
+unfoldable pub balanceIf : Verdict → Balanced → Balanced
+balanceIf verdict.Accepted x = x
+balanceIf (verdict.Refused number place) x = balanced.Refused number place
 
 unfoldable pub balanceOf : List ℕ → ℕ → Balanced
-balanceOf b number = ifAccepted (verdict b) (balancesIn (bookOf b) number)
+balanceOf b number = balanceIf (verdict b) (balancesIn (bookOf b) number)

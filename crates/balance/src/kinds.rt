@@ -1,7 +1,7 @@
 // Which of a record's lines a pool has, and what such a pool rests on.
 ghost use mathlib.Core.Path.{_≡_};
-ghost use Rattle.records.specs.Facts.{ConstraintRule};
-ghost use Rattle.balance.specs.Shapes.{plusBy, minusBy, recoveryOf};
+ghost use Rattle.records.specs.Inner.Facts.{ConstraintRule};
+ghost use Rattle.balance.specs.Inner.Shapes.{aboveBy, belowBy, recoveryOf};
 use amounts::pools;
 use records::rows::Constraint;
 use records::rows::UnitRow;
@@ -17,12 +17,12 @@ pub(crate) enum Kind {
 
 impl Kind {
     // What a unit row's factor credits: FPP by CF.
-    pub(crate) fn plus(self, q: UnitRow) -> u32
-        ensures { λ x. ⌜ x ≡ plusBy self q ⌝ }
+    pub(crate) fn above(self, q: UnitRow) -> u32
+        ensures { λ x. ⌜ x ≡ aboveBy self q ⌝ }
     {
         match self {
             Kind::Contingency => 0,
-            Kind::Fpp => q.plus,
+            Kind::Fpp => q.pcf,
             Kind::Used => 0,
             Kind::Unused => 0,
             Kind::Payment => 0,
@@ -30,13 +30,13 @@ impl Kind {
     }
 
     // What it charges: used by min(0, CF), unused by DCF.
-    pub(crate) fn minus(self, q: UnitRow) -> u32
-        ensures { λ x. ⌜ x ≡ minusBy self q ⌝ }
+    pub(crate) fn below(self, q: UnitRow) -> u32
+        ensures { λ x. ⌜ x ≡ belowBy self q ⌝ }
     {
         match self {
             Kind::Contingency => 0,
-            Kind::Fpp => q.minus,
-            Kind::Used => q.minus,
+            Kind::Fpp => q.ncf,
+            Kind::Used => q.ncf,
             Kind::Unused => q.dcf,
             Kind::Payment => 0,
         }

@@ -7,11 +7,11 @@ mod pools; // pools.rt: the balance of each kind of pool
 ghost use mathlib.Core.Path.{_≡_};
 ghost use Prim.Native.Nat.{_<_};
 ghost use Rattle.book.specs.Book.{bookIn};
-ghost use Rattle.book.specs.Facts.{Laid};
-ghost use Rattle.book.specs.Accepted.{Promise};
+ghost use Rattle.book.specs.Inner.Facts.{Laid};
+ghost use Rattle.book.specs.Inner.Accepted.{Promise};
 ghost use Rattle.balance.specs.Pools.{constraintPool, contractPool};
 ghost use Rattle.balance.specs.Balance.{balanceIn, balancesIn, balanceOf};
-ghost use Rattle.balance.specs.Shapes.{belongs};
+ghost use Rattle.balance.specs.Inner.Shapes.{belongs};
 ghost use mathlib.Core.Bool.{true};
 use crate::kinds::Kind;
 use crate::places::Place;

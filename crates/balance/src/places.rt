@@ -4,7 +4,7 @@ ghost use Prim.Native.Nat.{_*_, _≤_, _<_};
 ghost use lib.ListN.{length};
 ghost use Rattle.records.specs.Rows.{constraintRow};
 ghost use Rattle.balance.specs.Pools.{constraintPools};
-ghost use Rattle.balance.specs.Places.{KindIs, PlaceIs};
+ghost use Rattle.balance.specs.Inner.Places.{KindIs, PlaceIs};
 use crate::kinds::Kind;
 use market::Mode;
 use records::rows;

@@ -4,15 +4,16 @@ ghost use Prim.Native.Nat.{_+_, _*_, _≤_, _<_};
 ghost use mathlib.Core.Bool.{cond};
 ghost use lib.Dec.{eqb};
 ghost use lib.ListN.{length};
+ghost use Rattle.ground.specs.Units.{moneyLimit};
 ghost use Rattle.sections.specs.Total.{total};
 ghost use Rattle.records.specs.Rows.{energyRow};
-ghost use Rattle.totals.specs.Divisors.{divisorOf};
+ghost use Rattle.totals.specs.Divisors.{overRegions};
 ghost use Rattle.book.specs.Book.{bookIn};
-ghost use Rattle.book.specs.Facts.{Laid};
-ghost use Rattle.book.specs.Accepted.{Promise};
-ghost use Rattle.parties.specs.Parties.{partSum, Shareable};
-ghost use Rattle.balance.specs.Shapes.{constraintBasis, regionSum, contingencyShape, regulationShape, contractShape};
-ghost use Rattle.balance.specs.Rests.{OfConstraint, OfContract, PartIs, Counted, PaidIs, ListsAre, Payable, AllPayable, rowPays};
+ghost use Rattle.book.specs.Inner.Facts.{Laid};
+ghost use Rattle.book.specs.Inner.Accepted.{Promise};
+ghost use Rattle.parties.specs.Inner.Shares.{partSum, Shareable};
+ghost use Rattle.balance.specs.Inner.Shapes.{constraintBasis, regionPaid, contingencyShape, regulationShape, contractShape};
+ghost use Rattle.balance.specs.Inner.Rests.{OfConstraint, OfContract, PartIs, Counted, PaidIs, ListsAre, Payable, AllPayable, rowPays};
 use crate::Balance;
 use crate::kinds;
 use crate::kinds::Kind;
@@ -53,7 +54,7 @@ fn shared(book: &[u8], h: Header, p: Part) -> u64
     requires { ⌜ Laid (now book) h ⌝ }
     requires { ⌜ Promise (bookIn (now book) h) ⌝ }
     requires { ⌜ Shareable p (bookIn (now book) h .energy) (h .energies) ⌝ }
-    ensures { λ x. ⌜ (x ≡ partSum p (bookIn (now (book .entry)) h .energy) (h .energies)) × (x ≤ 51200000000000) ⌝ }
+    ensures { λ x. ⌜ (x ≡ partSum p (bookIn (now (book .entry)) h .energy) (h .energies)) × (x ≤ 51_200_000_000_000) ⌝ }
 {
     let energies = h.energies_at();
     parties::shares::part_sum(&book[energies..], h.energies as usize, p)
@@ -77,7 +78,7 @@ fn over_regions(book: &[u8], h: Header, r: Constraint, whole: u64, amount: u64) 
     requires { ⌜ Laid (now book) h ⌝ }
     requires { ⌜ Promise (bookIn (now book) h) ⌝ }
     requires { ⌜ OfConstraint (bookIn (now book) h) r ⌝ }
-    requires { ⌜ (whole ≡ divisorOf (bookIn (now book) h .entry) r) × (amount ≤ 50000000000) ⌝ }
+    requires { ⌜ (whole ≡ overRegions (bookIn (now book) h .entry) r) × (amount ≤ moneyLimit) ⌝ }
     ensures { λ x. ⌜ PartIs (bookIn (now (book .entry)) h) r amount x ⌝ }
 {
     let basis = basis_of(r);
@@ -190,7 +191,7 @@ fn pays(
 ) -> u64
     requires { ⌜ n * 24 ≤ length (now energy) ⌝ }
     requires { ⌜ AllPayable (now factors) (now consumed) (now sent) (now ace) (now asoe) (energyRow (now energy)) n ⌝ }
-    ensures { λ x. ⌜ (x ≡ total (λ i. rowPays (now (factors .entry)) (now (consumed .entry)) (now (sent .entry)) (now (ace .entry)) (now (asoe .entry)) (energyRow (now (energy .entry)) i)) n) × (x ≤ 102400000000000) ⌝ }
+    ensures { λ x. ⌜ (x ≡ total (λ i. rowPays (now (factors .entry)) (now (consumed .entry)) (now (sent .entry)) (now (ace .entry)) (now (asoe .entry)) (energyRow (now (energy .entry)) i)) n) × (x ≤ 102_400_000_000_000) ⌝ }
 {
     let mut sum: u64 = 0;
     let mut i = 0;
@@ -213,7 +214,7 @@ fn charges(book: &[u8], h: Header, k: Contract) -> u64
     requires { ⌜ Laid (now book) h ⌝ }
     requires { ⌜ Promise (bookIn (now book) h) ⌝ }
     requires { ⌜ OfContract (bookIn (now book) h) k ⌝ }
-    ensures { λ x. ⌜ (x ≡ total (regionSum (bookIn (now (book .entry)) h) k) 5) × (x ≤ 102400000000000) ⌝ }
+    ensures { λ x. ⌜ (x ≡ total (regionPaid (bookIn (now (book .entry)) h) k) 5) × (x ≤ 102_400_000_000_000) ⌝ }
 {
     let mut consumed = [0u64; 5];
     let mut sent = [0u64; 5];

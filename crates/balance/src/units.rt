@@ -1,10 +1,11 @@
 // What the unit rows of one constraint are credited of a pool and charged, by their factors.
 ghost use Prim.Native.Nat.{_*_, _≤_, _<_};
 ghost use lib.ListN.{length};
+ghost use Rattle.ground.specs.Units.{moneyLimit};
 ghost use Rattle.records.specs.Rows.{unitRow};
-ghost use Rattle.records.specs.Facts.{UnitRule};
-ghost use Rattle.factors.specs.Runs.{Walked};
-ghost use Rattle.balance.specs.Units.{RowAdded, SumsAre};
+ghost use Rattle.records.specs.Inner.Facts.{UnitRule};
+ghost use Rattle.factors.specs.Inner.Runs.{Walked};
+ghost use Rattle.balance.specs.Inner.Units.{RowAdded, SumsAre};
 use crate::kinds::Kind;
 use amounts::shares;
 use records::find;
@@ -21,19 +22,19 @@ pub(crate) struct UnitSums {
 // One of the constraint's rows in the sums.
 fn add_row(t: UnitSums, q: UnitRow, kind: Kind, pool: u64) -> UnitSums
     requires { ⌜ UnitRule q ⌝ }
-    requires { ⌜ (pool ≤ 50000000000) × ((t .rows < 600) × ((t .credit ≤ 30000000000000) × (t .charge ≤ 30000000000000))) ⌝ }
+    requires { ⌜ (pool ≤ moneyLimit) × ((t .rows < 600) × ((t .credit ≤ 30_000_000_000_000) × (t .charge ≤ 30_000_000_000_000))) ⌝ }
     ensures { λ x. ⌜ RowAdded t q kind pool x ⌝ }
 {
     UnitSums {
         rows: t.rows + 1,
-        credit: t.credit + shares::share(pool, kind.plus(q) as u64, 1000000),
-        charge: t.charge + shares::share(pool, kind.minus(q) as u64, 1000000),
+        credit: t.credit + shares::share(pool, kind.above(q) as u64, 1_000_000),
+        charge: t.charge + shares::share(pool, kind.below(q) as u64, 1_000_000),
     }
 }
 
 // The sums over the m unit rows. They are sorted by constraint, so its own stand side by side, and only these are added.
 pub(crate) fn unit_sums(units: &[u8], m: usize, id: u32, kind: Kind, pool: u64) -> UnitSums
-    requires { ⌜ (m * 20 ≤ length (now units)) × (pool ≤ 50000000000) ⌝ }
+    requires { ⌜ (m * 20 ≤ length (now units)) × (pool ≤ moneyLimit) ⌝ }
     requires { ⌜ Walked (unitRow (now units)) m ⌝ }
     ensures { λ x. ⌜ SumsAre (unitRow (now (units .entry))) m id kind pool m x ⌝ }
 {

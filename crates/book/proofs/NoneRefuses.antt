@@ -7,7 +7,8 @@ use mathlib.Core.Bool.{Bool, true, false, not}
 use borrow.Author.Tests.{not-true, not-false}
 use Rattle.ground.specs.Bytes.{partFrom}
 use Rattle.sections.specs.First.{firstBad}
-use Rattle.sections.specs.Order.{risesBy, Rises}
+use Rattle.sections.specs.Order.{risesBy}
+use Rattle.sections.specs.Inner.Order.{Rises}
 use Rattle.sections.specs.Refusal.{atRecord, earlier, firstOf}
 use Rattle.sections.specs.declared.Checked.the-variants.{Good}
 use Rattle.sections.specs.declared.Verdict.{Verdict}
@@ -16,22 +17,22 @@ use Rattle.sections.proofs.First.{first-each, first-good}
 use Rattle.sections.proofs.Refusal.{record-held, first-held, earlier-last}
 use Rattle.records.specs.Rows.{entryRow, constraintRow, unitRow, energyRow}
 use Rattle.records.specs.Rules.{entryOk, constraintOk, unitOk, energyOk, contractOk, constraintBelow, unitBelow, energyBelow, contractBelow}
-use Rattle.records.specs.Checks.{sectionVerdict}
-use Rattle.records.specs.Facts.{EntryRule, ConstraintRule}
+use Rattle.records.specs.Inner.Checks.{sectionVerdict}
+use Rattle.records.specs.Inner.Facts.{EntryRule, ConstraintRule}
 use Rattle.records.specs.declared.section.Check.the-variants.{EntryFields, ConstraintFields, ContractFields, ConstraintOrder, ContractOrder}
 use Rattle.records.proofs.Rule.{entry-rules, constraint-rules, unit-rules, energy-rules, contract-rules, constraints-rise}
 use Rattle.factors.specs.Naming.{idOf, namedAt}
 use Rattle.factors.specs.Factors.{factorsAt}
-use Rattle.totals.specs.Sums.{entryAt}
-use Rattle.quick.specs.Holds.{unitsHold, energiesHold}
+use Rattle.totals.specs.Sums.{entryHasSums}
+use Rattle.quick.specs.Inner.Holds.{unitsHold, energiesHold}
 use Rattle.quick.proofs.Said.{no-yes, UnitsHold, units-say, units-said, EnergiesHold, energies-say, energies-said}
 use Rattle.book.specs.declared.header.Header.{Header}
 use Rattle.book.specs.Header.{unitsFrom, energiesFrom, contractsFrom}
 use Rattle.book.specs.Book.{Book, bookIn}
 use Rattle.book.specs.Table.{check5, check6, check7, check8, check9, check10, recordChecks}
-use Rattle.book.specs.Facts.{Fields}
+use Rattle.book.specs.Inner.Facts.{Fields}
 use Rattle.book.proofs.Passed.{none-refused}
-use Rattle.book.specs.Passes.{shortChecks, accepts}
+use Rattle.book.specs.Inner.Passes.{shortChecks, accepts}
 
 -- what is answered; k is where the contracts start
 pub short-is : (b : List ℕ) (h : Header) {k : ℕ} {v₁ v₂ v₃ v₄ v₅ t₃ t₂ t₁ v : Verdict} → v₁ ≡ sectionVerdict EntryFields 24 5 (partFrom 24 b) → v₂ ≡ sectionVerdict ConstraintFields 84 (h .constraints) (partFrom 84 b) → k ≡ contractsFrom h → v₃ ≡ sectionVerdict ContractFields k (h .contracts) (partFrom k b) → v₄ ≡ sectionVerdict ConstraintOrder 84 (h .constraints) (partFrom 84 b) → v₅ ≡ sectionVerdict ContractOrder k (h .contracts) (partFrom k b) → t₃ ≡ earlier v₄ v₅ → t₂ ≡ earlier v₃ t₃ → t₁ ≡ earlier v₂ t₂ → v ≡ earlier v₁ t₁ → v ≡ firstOf (shortChecks (bookIn b h))
@@ -99,7 +100,7 @@ module _ (B : Book) {v : Verdict} (g : v ≡ Accepted) (q : v ≡ firstOf (short
           short .contracts-order,
           first-good (namedAt (B .constraint) (B .header .constraints) (B .unit)) _ (u .named),
           first-good (factorsAt (B .unit) (B .header .units) (B .constraint)) _ (u .factored),
-          first-good (entryAt (B .energy) (B .header .energies) (B .entry)) _ (n .sums),
+          first-good (entryHasSums (B .energy) (B .header .energies) (B .entry)) _ (n .sums),
           sym z ∙ a,
         )
 
@@ -155,7 +156,7 @@ through B e =
       energies = record {
         fields = first-each (λ i. energyOk (B .energy i)) _ (record-held _ _ _ _ (energies .here));
         order = first-each (risesBy energyBelow (B .energy)) _ (record-held _ _ _ _ (energy-pairs .here));
-        sums = first-each (entryAt (B .energy) (B .header .energies) (B .entry)) _ (record-held _ _ _ _ (c .sums));
+        sums = first-each (entryHasSums (B .energy) (B .header .energies) (B .entry)) _ (record-held _ _ _ _ (c .sums));
       };
       divisors = c .divisors;
     }

@@ -14,12 +14,13 @@ use Rattle.sections.proofs.Refusal.{first-held, record-held, unless-held}
 use Rattle.sections.proofs.Total.{total-under}
 use Rattle.records.specs.declared.rows.EnergyRow.{EnergyRow}
 use Rattle.factors.proofs.Said.{owner-of, whole-of, plain-of}
-use Rattle.totals.specs.Sums.{regionOf, aceOf, asoeOf, residualOf, SumsTo}
+use Rattle.totals.specs.Sums.{regionOf, aceOf, asoeOf, teOf}
+use Rattle.totals.specs.Inner.Facts.{SumsTo}
 use Rattle.totals.proofs.Said.{entry-of, divisor-of, funded-of}
 use Rattle.book.specs.Header.{rangeTests, inRange}
 use Rattle.book.specs.Book.{Book, bookOf}
 use Rattle.book.specs.Table.{check3, check4, check7, check8, check9, check10, recordChecks, verdict}
-use Rattle.book.specs.Accepted.{ownIn, Within, Promise, AcceptedBook}
+use Rattle.book.specs.Inner.Accepted.{ownTotal, AtMostEntry, Promise, AcceptedBook}
 use Rattle.book.proofs.Passed.{none-refused}
 use Rattle.book.proofs.Whole.{few-of}
 use Rattle.book.proofs.Steps.{fields-of, ordered-of}
@@ -35,12 +36,12 @@ own-part true b x = by b
     by false = omega arith
 own-part false b x = omega arith
 
-own-within : (B : Book) (account g : ℕ) (f : EnergyRow → ℕ) → ownIn B account g f ≤ totalOf (regionOf (B .energy)) g (λ i. f (B .energy i)) (B .header .energies)
-unfolding ownIn keyed
+own-within : (B : Book) (account g : ℕ) (f : EnergyRow → ℕ) → ownTotal B account g f ≤ totalOf (regionOf (B .energy)) g (λ i. f (B .energy i)) (B .header .energies)
+unfolding ownTotal keyed
 own-within B account g f =
     total-under _ _ (B .header .energies) (λ i l. own-part (eqb (B .energy i .account) account) (eqb (B .energy i .region) g) (f (B .energy i)))
 
-own-of : (B : Book) → ((g : ℕ) → g < 5 → SumsTo (B .entry g) (totalOf (regionOf (B .energy)) g (aceOf (B .energy)) (B .header .energies)) (totalOf (regionOf (B .energy)) g (asoeOf (B .energy)) (B .header .energies)) (totalOf (regionOf (B .energy)) g (residualOf (B .energy)) (B .header .energies))) → (account g : ℕ) → g < 5 → Within (B .entry g) (ownIn B account g (λ r. r .ace)) (ownIn B account g (λ r. r .asoe)) (ownIn B account g (λ r. r .race + r .rasoe))
+own-of : (B : Book) → ((g : ℕ) → g < 5 → SumsTo (B .entry g) (totalOf (regionOf (B .energy)) g (aceOf (B .energy)) (B .header .energies)) (totalOf (regionOf (B .energy)) g (asoeOf (B .energy)) (B .header .energies)) (totalOf (regionOf (B .energy)) g (teOf (B .energy)) (B .header .energies))) → (account g : ℕ) → g < 5 → AtMostEntry (B .entry g) (ownTotal B account g (λ r. r .ace)) (ownTotal B account g (λ r. r .asoe)) (ownTotal B account g (λ r. r .race + r .rasoe))
 own-of B s account g l =
     record {
       ace = rw (s g l .ace) (own-within B account g (λ r. r .ace));

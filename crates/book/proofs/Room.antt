@@ -8,7 +8,7 @@ use Rattle.ground.specs.Bytes.{partFrom}
 use Rattle.ground.proofs.Part.{part-drop}
 use Rattle.book.specs.declared.header.Header.{Header}
 use Rattle.book.specs.Header.{unitsFrom, energiesFrom, contractsFrom}
-use Rattle.book.specs.Facts.{Laid}
+use Rattle.book.specs.Inner.Facts.{Laid}
 
 part-long : (a : ℕ) (b : List ℕ) → length (partFrom a b) ≡ length b - a
 part-long a b = rw (part-drop a b) (length-drop a b)

@@ -5,26 +5,26 @@ use mathlib.Core.List.{List}
 use mathlib.Core.Path.{_≡_, sym, _∙_}
 use Rattle.ground.specs.Bytes.{partFrom}
 use Rattle.sections.specs.First.{firstBad}
-use Rattle.sections.specs.Order.{Keeps, PairsRise}
+use Rattle.sections.specs.Inner.Order.{Keeps, PairsRise}
 use Rattle.sections.specs.Refusal.{atRecord, earlier, firstOf}
 use Rattle.sections.specs.declared.Checked.{Checked}
 use Rattle.sections.specs.declared.Verdict.{Verdict}
 use Rattle.sections.specs.declared.Verdict.the-variants.{Accepted}
 use Rattle.sections.proofs.Refusal.{record-held, first-held, earlier-last}
 use Rattle.records.specs.Rows.{entryRow, constraintRow, unitRow, energyRow, contractRow}
-use Rattle.records.specs.Checks.{sectionVerdict}
+use Rattle.records.specs.Inner.Checks.{sectionVerdict}
 use Rattle.records.specs.declared.section.Check.the-variants.{EntryFields, ConstraintFields, UnitFields, EnergyFields, ContractFields, ConstraintOrder, UnitOrder, EnergyOrder, ContractOrder}
 use Rattle.records.proofs.Rule.{entry-rules, constraint-rules, unit-rules, energy-rules, contract-rules, constraints-rise, units-rise, energies-rise, contracts-rise}
 use Rattle.factors.specs.Naming.{namedAt}
 use Rattle.factors.specs.Factors.{factorsAt}
 use Rattle.factors.proofs.Said.{owner-of, names-of}
-use Rattle.totals.specs.Sums.{entryAt}
+use Rattle.totals.specs.Sums.{entryHasSums}
 use Rattle.totals.specs.Divisors.{constraintDivides, contractDivides}
 use Rattle.book.specs.declared.header.Header.{Header}
 use Rattle.book.specs.Header.{unitsFrom, energiesFrom, contractsFrom}
 use Rattle.book.specs.Book.{Book, bookIn}
 use Rattle.book.specs.Table.{check5, check6, check7, check8, check9, check10}
-use Rattle.book.specs.Facts.{Fields, Ordered, Named}
+use Rattle.book.specs.Inner.Facts.{Fields, Ordered, Named}
 
 -- ---- what is answered
 
@@ -45,7 +45,7 @@ module _ (b : List ℕ) (h : Header) where
   unfolding check8
   check8-is e f g = g ∙ rw (f, e)
 
-  pub check9-is : {u : ℕ} {found : Checked} {v : Verdict} → u ≡ energiesFrom h → found ≡ firstBad (entryAt (energyRow (partFrom u b)) (h .energies) (entryRow (partFrom 24 b))) 5 → v ≡ atRecord 9 24 12 found → v ≡ check9 (bookIn b h)
+  pub check9-is : {u : ℕ} {found : Checked} {v : Verdict} → u ≡ energiesFrom h → found ≡ firstBad (entryHasSums (energyRow (partFrom u b)) (h .energies) (entryRow (partFrom 24 b))) 5 → v ≡ atRecord 9 24 12 found → v ≡ check9 (bookIn b h)
   unfolding check9
   check9-is e f g = g ∙ rw (f, e)
 

@@ -11,10 +11,10 @@ use Rattle.sections.specs.declared.Verdict.{Verdict}
 use Rattle.sections.specs.declared.Verdict.the-variants.{Accepted, Refused}
 use Rattle.sections.proofs.Refusal.{unless-stop, unless-go, verdict-stop, verdict-go}
 use Rattle.book.specs.declared.header.Header.{Header}
-use Rattle.book.specs.Header.{marked, headerOf, rangeTests, inRange, wholeLength}
+use Rattle.book.specs.Header.{bookMarked, headerOf, rangeTests, inRange, wholeLength}
 use Rattle.book.specs.Book.{bookIn, bookOf}
 use Rattle.book.specs.Table.{check1, check2, check3, check4, recordChecks, verdict}
-use Rattle.book.specs.Facts.{Few, Laid}
+use Rattle.book.specs.Inner.Facts.{Few, Laid}
 
 -- ---- each check alone
 
@@ -23,7 +23,7 @@ module _ (b : List ℕ) where
   unfolding check1
   pass1 l = unless-go 1 (le-leb _ _ l)
 
-  pass2 : marked b ≡ true → Accepted ≡ check2 b
+  pass2 : bookMarked b ≡ true → Accepted ≡ check2 b
   unfolding check2
   pass2 e = unless-go 2 e
 
@@ -41,11 +41,11 @@ module _ (b : List ℕ) where
   unfolding verdict check1
   stop1 l = verdict-stop _ refl (unless-stop 1 (lt-leb _ _ l))
 
-  pub stop2 : {t : Bool} → 84 ≤ length b → t ≡ marked b → not t ≡ true → Refused 2 0 ≡ verdict b
+  pub stop2 : {t : Bool} → 84 ≤ length b → t ≡ bookMarked b → not t ≡ true → Refused 2 0 ≡ verdict b
   unfolding verdict check2
   stop2 {t} l e f = verdict-go _ refl (pass1 l) (verdict-stop _ refl (unless-stop 2 (sym e ∙ not-true t f)))
 
-  module _ {t : Bool} (l : 84 ≤ length b) (e : t ≡ marked b) (f : not t ≡ false) where
+  module _ {t : Bool} (l : 84 ≤ length b) (e : t ≡ bookMarked b) (f : not t ≡ false) where
     go2 : {v : Verdict} → v ≡ firstOf (check3 b ∷ check4 b ∷ recordChecks (bookOf b)) → v ≡ verdict b
     unfolding verdict
     go2 h = verdict-go _ refl (pass1 l) (verdict-go _ refl (pass2 (sym e ∙ not-false t f)) h)

@@ -10,8 +10,8 @@ use Rattle.calendar.specs.Calendar.{isPeriod}
 use Rattle.book.specs.declared.header.Header.{Header}
 
 -- "the three letters RCB; reserved byte; 16-bit version 1; .. reserved u16"
-abbrev pub marked : List ℕ → Bool
-marked b =
+abbrev pub bookMarked : List ℕ → Bool
+bookMarked b =
     allOf (eqb (byteAt b 0) 82
     ∷ eqb (byteAt b 1) 67
     ∷ eqb (byteAt b 2) 66

@@ -13,9 +13,9 @@ use Rattle.sections.specs.declared.Verdict.{Verdict}
 use Rattle.records.specs.Rules.{entryOk, constraintOk, unitOk, energyOk, contractOk, constraintBelow, unitBelow, energyBelow, contractBelow}
 use Rattle.factors.specs.Naming.{namedAt}
 use Rattle.factors.specs.Factors.{factorsAt}
-use Rattle.totals.specs.Sums.{entryAt}
+use Rattle.totals.specs.Sums.{entryHasSums}
 use Rattle.totals.specs.Divisors.{constraintDivides, contractDivides}
-use Rattle.book.specs.Header.{marked, headerOf, inRange, unitsFrom, energiesFrom, contractsFrom, wholeLength}
+use Rattle.book.specs.Header.{bookMarked, headerOf, inRange, unitsFrom, energiesFrom, contractsFrom, wholeLength}
 use Rattle.book.specs.Book.{Book, bookOf}
 
 -- the number, at the first of the n records that fails the test
@@ -28,7 +28,7 @@ check1 b = unless (leb 84 (length b)) 1
 
 -- "mark, version or a reserved header byte wrong"
 unfoldable pub check2 : List ℕ → Verdict
-check2 b = unless (marked b) 2
+check2 b = unless (bookMarked b) 2
 
 -- "interval, date, run or a count out of its range"
 unfoldable pub check3 : List ℕ → Verdict
@@ -67,7 +67,7 @@ check8 B = refuse 8 84 40 (factorsAt (B .unit) (B .header .units) (B .constraint
 
 -- "a region entry differs from its rows' sums"
 unfoldable pub check9 : Book → Verdict
-check9 B = refuse 9 24 12 (entryAt (B .energy) (B .header .energies) (B .entry)) 5
+check9 B = refuse 9 24 12 (entryHasSums (B .energy) (B .header .energies) (B .entry)) 5
 
 -- "a total to divide by is zero"
 unfoldable pub check10 : Book → Verdict

@@ -4,7 +4,7 @@ ghost use mathlib.Core.Path.{_≡_};
 ghost use Rattle.sections.specs.Refusal.{firstOf};
 ghost use Rattle.book.specs.Book.{bookIn};
 ghost use Rattle.book.specs.Table.{check5, check6, check7, check8, check9, check10, recordChecks};
-ghost use Rattle.book.specs.Facts.{Laid, Fields, Ordered, Named};
+ghost use Rattle.book.specs.Inner.Facts.{Laid, Fields, Ordered, Named};
 use crate::header::Header;
 use crate::passes;
 use factors::naming;

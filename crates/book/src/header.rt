@@ -2,7 +2,7 @@
 ghost use mathlib.Core.Path.{_≡_};
 ghost use Prim.Native.Nat.{_≤_};
 ghost use lib.ListN.{length};
-ghost use Rattle.book.specs.Header.{marked, headerOf, inRange, unitsFrom, energiesFrom, contractsFrom, wholeLength};
+ghost use Rattle.book.specs.Header.{bookMarked, headerOf, inRange, unitsFrom, energiesFrom, contractsFrom, wholeLength};
 use ground::read;
 
 pub struct Header {
@@ -18,7 +18,7 @@ pub struct Header {
 // The mark, the version and the reserved bytes.
 pub(crate) fn is_marked(book: &[u8]) -> bool
     requires { ⌜ 84 ≤ length (now book) ⌝ }
-    ensures { λ r. ⌜ r ≡ marked (now (book .entry)) ⌝ }
+    ensures { λ r. ⌜ r ≡ bookMarked (now (book .entry)) ⌝ }
 {
     let mark = b"RCB";
     (book[0] == mark[0])

@@ -19,7 +19,7 @@ abbrev pub realDate : ℕ → ℕ → ℕ → Bool
 realDate year month day = leb 2025 year && leb year 2099 && leb 1 month && leb month 12 && leb 1 day && leb day (daysIn year month)
 
 unfoldable pub isDate : ℕ → Bool
-isDate date = realDate (date / 10000) (date / 100 % 100) (date % 100)
+isDate date = realDate (date / 10_000) (date / 100 % 100) (date % 100)
 
 -- 01, The book: "interval u16, 1 to 288"
 abbrev pub isInterval : ℕ → Bool

@@ -27,7 +27,7 @@ fn days_in(year: u32, month: u32) -> u32
 pub fn is_date(date: u32) -> bool
     ensures { λ r. ⌜ r ≡ isDate date ⌝ }
 {
-    let year = date / 10000;
+    let year = date / 10_000;
     let month = date / 100 % 100;
     let day = date % 100;
     (2025 <= year)

@@ -1,13 +1,13 @@
 -- Every case of the table holds: each definition computes to what the document says. Assumes nothing.
 use mathlib.Core.Path.{refl}
 use Rattle.ground.specs.Le.{le16, le32, le64, int64}
-use Rattle.ground.specs.Sizes.{plusOf, minusOf}
+use Rattle.ground.specs.Sizes.{aboveOf, belowOf}
 use Rattle.sections.specs.Total.{total}
 use Rattle.records.specs.Rows.{entryRow, constraintRow, unitRow, energyRow}
 use Rattle.market.specs.Kinds.{modeWith}
-use Rattle.totals.specs.Divisors.{basisOf, shareOf}
+use Rattle.totals.specs.Divisors.{basisOf, countedIn}
 use Rattle.book.specs.Header.{headerOf}
-use Rattle.amounts.specs.Pools.{poolsIn, residualOf}
+use Rattle.amounts.specs.Pools.{poolsByMode, residualPools}
 use Rattle.amounts.specs.Shares.{byFactor, byEnergy}
 use Rattle.accounts.specs.Rows.{rowsOf, keep, sumOf, concatMap}
 use Rattle.accounts.specs.Account.{publicOf, rowsOfAccount, ownEnergy}
@@ -18,5 +18,5 @@ use Rattle.cases.specs.Cases.{table, AllHold}
 
 -- one `refl` for each row, in the table's order
 pub proved-cases : AllHold table
-unfolding le16 le32 le64 int32 int64 plusOf minusOf total entryRow constraintRow unitRow energyRow modeWith basisOf shareOf headerOf poolsIn residualOf byFactor byEnergy rowsOf keep sumOf concatMap publicOf rowsOfAccount ownEnergy unitLines restLines entryIn ofConstraint constraintLines linesOf
+unfolding le16 le32 le64 int32 int64 aboveOf belowOf total entryRow constraintRow unitRow energyRow modeWith basisOf countedIn headerOf poolsByMode residualPools byFactor byEnergy rowsOf keep sumOf concatMap publicOf rowsOfAccount ownEnergy unitLines restLines entryIn ofConstraint constraintLines linesOf
 proved-cases = (refl, (refl, (refl, (refl, (refl, (refl, (refl, (refl, (refl, (refl, tt))))))))))

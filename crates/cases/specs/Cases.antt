@@ -14,7 +14,7 @@ use Rattle.amounts.specs.Shares.{byEnergy}
 use Rattle.accounts.specs.Account.{publicOf, rowsOfAccount}
 use Rattle.statement.specs.declared.Line.{Line}
 use Rattle.settlement.specs.Settle.{linesOf}
-use Rattle.cases.specs.Written.{heading, entry, constraint, unitRow, energyRow}
+use Rattle.cases.specs.Written.{headerBytes, entryBytes, constraintBytes, unitBytes, energyBytes}
 
 -- a number above 0 and one below it, as the document writes them
 abbrev pub plus : ℕ → ℤ
@@ -49,20 +49,20 @@ worked =
 -- -680,000; -700,000). Energy in region 0, all residual: account 7, ACE -15,000, ASOE 5,000; account 9, -1,000,000 and 580,000."
 abbrev pub workedFields : List ℕ
 workedFields =
-    heading 1 20250608 1 1 5 2 0
-    ++ entry (minus 1015000) (plus 585000) (plus 1600000)
-    ++ entry (plus 0) (plus 0) (plus 0)
-    ++ entry (plus 0) (plus 0) (plus 0)
-    ++ entry (plus 0) (plus 0) (plus 0)
-    ++ entry (plus 0) (plus 0) (plus 0)
-    ++ constraint 500 9 1 1 (plus 13961300) 9855 90000 400000 (minus 300000) (minus 250000)
-    ++ unitRow 500 1 7 (plus 80000) (minus 40000)
-    ++ unitRow 500 2 7 (minus 20000) (minus 10000)
-    ++ unitRow 500 3 7 (plus 30000) (plus 0)
-    ++ unitRow 500 4 9 (plus 890000) (plus 0)
-    ++ unitRow 500 5 9 (minus 680000) (minus 700000)
-    ++ energyRow 7 0 (minus 15000) (plus 5000) (minus 15000) (plus 5000)
-    ++ energyRow 9 0 (minus 1000000) (plus 580000) (minus 1000000) (plus 580000)
+    headerBytes 1 20250608 1 1 5 2 0
+    ++ entryBytes (minus 1_015_000) (plus 585_000) (plus 1_600_000)
+    ++ entryBytes (plus 0) (plus 0) (plus 0)
+    ++ entryBytes (plus 0) (plus 0) (plus 0)
+    ++ entryBytes (plus 0) (plus 0) (plus 0)
+    ++ entryBytes (plus 0) (plus 0) (plus 0)
+    ++ constraintBytes 500 9 1 1 (plus 13_961_300) 9855 90_000 400_000 (minus 300_000) (minus 250_000)
+    ++ unitBytes 500 1 7 (plus 80_000) (minus 40_000)
+    ++ unitBytes 500 2 7 (minus 20_000) (minus 10_000)
+    ++ unitBytes 500 3 7 (plus 30_000) (plus 0)
+    ++ unitBytes 500 4 9 (plus 890_000) (plus 0)
+    ++ unitBytes 500 5 9 (minus 680_000) (minus 700_000)
+    ++ energyBytes 7 0 (minus 15_000) (plus 5000) (minus 15_000) (plus 5000)
+    ++ energyBytes 9 0 (minus 1_000_000) (plus 580_000) (minus 1_000_000) (plus 580_000)
 
 -- the pools of its constraint
 abbrev pub workedPools : Pools
@@ -96,21 +96,21 @@ table =
     ∷ number (quotient 0 7 4) (minus 2)
     ∷ number (quotient 1 0 4) (plus 0)
     ∷ bytes worked workedFields
-    ∷ number (plus (workedPools .fpp)) (plus 7391250)
-    ∷ number (plus (workedPools .used)) (plus 5584520)
-    ∷ number (plus (workedPools .unused)) (plus 8376780)
-    ∷ lines workedLines (listed 3 1 (plus 591300)
+    ∷ number (plus (workedPools .fpp)) (plus 7_391_250)
+    ∷ number (plus (workedPools .used)) (plus 5_584_520)
+    ∷ number (plus (workedPools .unused)) (plus 8_376_780)
+    ∷ lines workedLines (listed 3 1 (plus 591_300)
     ∷ listed 4 1 (plus 0)
-    ∷ listed 5 1 (minus 335071)
-    ∷ listed 3 2 (minus 147825)
-    ∷ listed 4 2 (minus 111690)
-    ∷ listed 5 2 (minus 83768)
-    ∷ listed 3 3 (plus 221738)
+    ∷ listed 5 1 (minus 335_071)
+    ∷ listed 3 2 (minus 147_825)
+    ∷ listed 4 2 (minus 111_690)
+    ∷ listed 5 2 (minus 83_768)
+    ∷ listed 3 3 (plus 221_738)
     ∷ listed 4 3 (plus 0)
     ∷ listed 5 3 (plus 0)
-    ∷ listed 6 0 (minus 27717)
-    ∷ listed 7 0 (minus 20942)
-    ∷ listed 8 0 (minus 26177)
+    ∷ listed 6 0 (minus 27_717)
+    ∷ listed 7 0 (minus 20_942)
+    ∷ listed 8 0 (minus 26_177)
     ∷ [])
     ∷ []
 

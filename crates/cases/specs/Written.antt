@@ -10,9 +10,10 @@ use Rattle.ground.specs.Le.{le16, le32, int64}
 unfoldable pub int32 : ℤ → List ℕ
 int32 z = le32 (ofZ w32 z)
 
--- "the three letters RCB; reserved byte; 16-bit version 1; interval; date; run; counts of constraints, unit rows, energy rows, contracts; reserved u16"
-abbrev pub heading : ℕ → ℕ → ℕ → ℕ → ℕ → ℕ → ℕ → List ℕ
-heading interval date run constraints units energies contracts =
+-- "the three letters RCB; reserved byte; 16-bit version 1; interval; date; run; counts of constraints, unit rows, energy rows, contracts;
+-- reserved u16"
+abbrev pub headerBytes : ℕ → ℕ → ℕ → ℕ → ℕ → ℕ → ℕ → List ℕ
+headerBytes interval date run constraints units energies contracts =
     (82 ∷ 67 ∷ 66 ∷ 0 ∷ [])
     ++ le16 1
     ++ le16 interval
@@ -25,24 +26,24 @@ heading interval date run constraints units energies contracts =
     ++ le16 0
 
 -- "total ACE, total ASOE, residual total"
-abbrev pub entry : ℤ → ℤ → ℤ → List ℕ
-entry ace asoe residual = int32 ace ++ int32 asoe ++ int32 residual
+abbrev pub entryBytes : ℤ → ℤ → ℤ → List ℕ
+entryBytes ace asoe residual = int32 ace ++ int32 asoe ++ int32 residual
 
 -- "id; service; regions; mode; reserved byte; cost; price; RCR; usage; RCF; DRCF; reserved u32"
-abbrev pub constraint : ℕ → ℕ → ℕ → ℕ → ℤ → ℕ → ℕ → ℕ → ℤ → ℤ → List ℕ
-constraint id service regions mode cost price rcr usage rcf drcf =
+abbrev pub constraintBytes : ℕ → ℕ → ℕ → ℕ → ℤ → ℕ → ℕ → ℕ → ℤ → ℤ → List ℕ
+constraintBytes id service regions mode cost price rcr usage rcf drcf =
     le32 id ++ (service ∷ regions ∷ mode ∷ 0 ∷ []) ++ int64 cost ++ le32 price ++ le32 rcr ++ le32 usage ++ int32 rcf ++ int32 drcf ++ le32 0
 
 -- "constraint id, unit id, account; CF; DCF"
-abbrev pub unitRow : ℕ → ℕ → ℕ → ℤ → ℤ → List ℕ
-unitRow owner unit account cf dcf = le32 owner ++ le32 unit ++ le32 account ++ int32 cf ++ int32 dcf
+abbrev pub unitBytes : ℕ → ℕ → ℕ → ℤ → ℤ → List ℕ
+unitBytes owner unit account cf dcf = le32 owner ++ le32 unit ++ le32 account ++ int32 cf ++ int32 dcf
 
 -- "account; region; three reserved bytes; ACE; ASOE; residual ACE; residual ASOE"
-abbrev pub energyRow : ℕ → ℕ → ℤ → ℤ → ℤ → ℤ → List ℕ
-energyRow account region ace asoe race rasoe =
+abbrev pub energyBytes : ℕ → ℕ → ℤ → ℤ → ℤ → ℤ → List ℕ
+energyBytes account region ace asoe race rasoe =
     le32 account ++ (region ∷ 0 ∷ 0 ∷ 0 ∷ []) ++ int32 ace ++ int32 asoe ++ int32 race ++ int32 rasoe
 
 -- "id; kind; three reserved bytes; payment; five regional benefit factors"
-abbrev pub contract : ℕ → ℕ → ℤ → ℕ → ℕ → ℕ → ℕ → ℕ → List ℕ
-contract id kind payment nsw qld sa tas vic =
+abbrev pub contractBytes : ℕ → ℕ → ℤ → ℕ → ℕ → ℕ → ℕ → ℕ → List ℕ
+contractBytes id kind payment nsw qld sa tas vic =
     le32 id ++ (kind ∷ 0 ∷ 0 ∷ 0 ∷ []) ++ int64 payment ++ le32 nsw ++ le32 qld ++ le32 sa ++ le32 tas ++ le32 vic

@@ -11,7 +11,7 @@ use native.Mathlib.Omega.{arith}
 use native.Mathlib.Nat.{eq-or-lt-of-le}
 use Rattle.ground.specs.Bytes.{partFrom}
 use Rattle.sections.specs.Total.{total, keyed}
-use Rattle.sections.specs.Walk.{Under, Sought}
+use Rattle.sections.specs.Inner.Walk.{Under, Sought}
 use Rattle.sections.proofs.Walk.{under-later}
 use Rattle.sections.proofs.Total.{total-none, total-more, total-all, total-zero, total-same, total-plus, total-swap, total-only, total-five, keyed-hit, keyed-miss}
 use Rattle.sections.proofs.Search.{lt-or-ge}
@@ -22,8 +22,8 @@ use Rattle.records.specs.declared.rows.Constraint.{Constraint}
 use Rattle.records.specs.declared.rows.UnitRow.{UnitRow}
 use Rattle.records.specs.declared.rows.Contract.{Contract}
 use Rattle.factors.specs.Naming.{idOf, keyOf}
-use Rattle.totals.specs.Totals.{entryOf}
-use Rattle.amounts.specs.Pools.{poolsOf, residualOf}
+use Rattle.totals.specs.Inner.Totals.{entryOf}
+use Rattle.amounts.specs.Pools.{poolsOf, residualPools}
 use Rattle.amounts.specs.declared.pools.Residual.{Residual}
 use Rattle.accounts.specs.Rows.{joined}
 use Rattle.accounts.proofs.Joined.{joined-none, joined-more, joined-all, joined-length}
@@ -31,9 +31,9 @@ use Rattle.book.specs.Book.{bookIn}
 use Rattle.book.specs.Header.{unitsFrom, contractsFrom}
 use Rattle.book.specs.declared.header.Header.{Header}
 use Rattle.lines.specs.Lines.{unitLines, restLines, regionLines}
-use Rattle.walk.specs.Walks.{ownLines, unitLinesAt, conLines, conLinesAt, contractLinesAt, bookLines}
+use Rattle.walk.specs.Inner.Walks.{ownLines, unitLinesAt, conLines, conLinesAt, contractLinesAt, bookLines}
 use Rattle.walk.proofs.Order.{rises-once}
-use Rattle.count.specs.Counts.{eachOf, countIn, rowCount, UnitsCounted, BareOf, Countable, MetAt, ConstraintsCounted, ContractCounted, ContractsCounted, BookCounted}
+use Rattle.count.specs.Inner.Counts.{eachOf, countIn, rowCount, UnitsCounted, BareOf, Countable, MetAt, ConstraintsCounted, ContractCounted, ContractsCounted, BookCounted}
 use Rattle.count.specs.declared.Met.{Met}
 
 -- whichever of two lists is taken, so long it is
@@ -90,7 +90,7 @@ module _ (unit : ℕ → UnitRow) (m account : ℕ) (r : Constraint) where
   con-length bare o t =
       ⊎-elim
       (λ (z : r .mode ≡ 0). rw (eq-eqb _ _ z) (ap₂ _+_ (total-zero (countIn unit account r) m (λ u l. miss unit account r u (bare z u l))) (single z)))
-      (λ (d : r .mode ≡ 0 → ⊥). rw (ne-eqb _ _ d, length-append) (ap₂ _+_ rows-length (rest-length (residualOf r (poolsOf r)) o t)))
+      (λ (d : r .mode ≡ 0 → ⊥). rw (ne-eqb _ _ d, length-append) (ap₂ _+_ rows-length (rest-length (residualPools r (poolsOf r)) o t)))
       (is-zero (r .mode))
 
 -- ---- all constraints

@@ -8,7 +8,7 @@ use lib.Dec.{eqb}
 use lib.ListN.{length, length-append}
 use native.Mathlib.Omega.{arith}
 use native.Mathlib.Nat.{le-refl}
-use Rattle.sections.specs.Order.{Rises}
+use Rattle.sections.specs.Inner.Order.{Rises}
 use Rattle.sections.specs.Total.{total, keyed, totalOf}
 use Rattle.sections.proofs.Total.{total-zero, total-under, total-plus, total-swap, total-bound, keyed-miss, keyed-le}
 use Rattle.records.specs.Rules.{factorOf}
@@ -18,14 +18,14 @@ use Rattle.records.specs.declared.rows.UnitRow.{UnitRow}
 use Rattle.records.specs.declared.rows.Contract.{Contract}
 use Rattle.factors.specs.Naming.{idOf, keyOf}
 use Rattle.totals.specs.declared.entries.Totals.{Totals}
-use Rattle.amounts.specs.Pools.{poolsOf, residualOf}
+use Rattle.amounts.specs.Pools.{poolsOf, residualPools}
 use Rattle.amounts.specs.declared.pools.Pools.{Pools}
 use Rattle.amounts.specs.declared.pools.Residual.{Residual}
 use Rattle.accounts.specs.Rows.{joined}
 use Rattle.accounts.proofs.Joined.{joined-length, joined-bound}
 use Rattle.statement.specs.declared.Line.{Line}
 use Rattle.lines.specs.Lines.{unitLines, restLines, regionLines}
-use Rattle.walk.specs.Walks.{ownLines, unitLinesAt, conLines, conLinesAt, contractLinesAt}
+use Rattle.walk.specs.Inner.Walks.{ownLines, unitLinesAt, conLines, conLinesAt, contractLinesAt}
 
 -- ---- sums
 
@@ -78,7 +78,7 @@ module _ (unit : ℕ → UnitRow) (account : ℕ) (r : Constraint) where
   constraint-few m o t =
       choice-bound (eqb (r .mode) 0) _ _ _ (omega arith)
       (rw (length-append, joined-length (unitLinesAt unit account r (poolsOf r)) m)
-      (omega (arith, total-under (λ u. length (unitLinesAt unit account r (poolsOf r) u)) (keyed (keyOf unit) (r .id) (λ v. 3)) m (λ u l. row-three (poolsOf r) u), rest-three r (residualOf r (poolsOf r)) o t)))
+      (omega (arith, total-under (λ u. length (unitLinesAt unit account r (poolsOf r) u)) (keyed (keyOf unit) (r .id) (λ v. 3)) m (λ u l. row-three (poolsOf r) u), rest-three r (residualPools r (poolsOf r)) o t)))
 
 -- ---- all constraints
 

@@ -6,7 +6,7 @@ use mathlib.Core.List.{List, [], _∷_, _++_}
 use native.Mathlib.Omega.{arith}
 use lib.IntN.{ℤ, natAbs}
 use lib.ListN.{length, length-append}
-use Rattle.ground.specs.Put.{Wrote}
+use Rattle.ground.specs.Inner.Put.{Wrote}
 use Rattle.ground.specs.Sign.{negative}
 use Rattle.ground.proofs.Put.{wrote-none, wrote-length}
 use Rattle.decimal.specs.Decimal.{inRow, decimalOf, lastDigits, minusText, dollarsOf}
@@ -49,7 +49,7 @@ pub last-room : {l : List ℕ} {k : ℕ} (n x : ℕ) → Space l k (lastDigits n
 last-room n x s = omega (arith, s .fits, last-length n x)
 
 abbrev pub amountPieces : Bool → ℕ → List (List ℕ)
-amountPieces t n = minusText t ∷ decimalOf (n / 10000) ∷ (46 ∷ []) ∷ lastDigits 4 n ∷ []
+amountPieces t n = minusText t ∷ decimalOf (n / 10_000) ∷ (46 ∷ []) ∷ lastDigits 4 n ∷ []
 
 module _ (z : ℤ) {n : ℕ} {t : Bool} (e : n ≡ natAbs z) (q : t ≡ negative z) where
   dollars-are : dollarsOf z ≡ inRow (amountPieces t n)
@@ -72,4 +72,4 @@ pub dollars-short : (z : ℤ) → natAbs z < 2 ^ 64 → length (dollarsOf z) ≤
 unfolding dollarsOf
 dollars-short z h =
     simp length-append
-    (omega (arith, minus-short (negative z), few-digits 15 (natAbs z / 10000) (omega arith), last-length 4 (natAbs z)))
+    (omega (arith, minus-short (negative z), few-digits 15 (natAbs z / 10_000) (omega arith), last-length 4 (natAbs z)))

@@ -7,7 +7,8 @@ use native.Mathlib.Nat.{add-zero, div-one}
 use native.Mathlib.Numerals.{add-one}
 use lib.ListN.{length, take, getD}
 use lib.Seq.{take-length, take-suc}
-use Rattle.ground.specs.Put.{put, Wrote}
+use Rattle.ground.specs.Put.{put}
+use Rattle.ground.specs.Inner.Put.{Wrote}
 use Rattle.ground.proofs.Put.{put-length, put-ahead, wrote-none, wrote-more, wrote-length}
 use Rattle.decimal.specs.Decimal.{decimalOf, lastDigits}
 use Rattle.decimal.proofs.Spelling.{drop-last, last-front, last-length, all-last}

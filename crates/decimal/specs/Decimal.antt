@@ -41,4 +41,4 @@ minusText false = []
 
 -- ten-thousandths of a dollar, in dollars: "dollars to four places, any minus first". 46 is the point. Zero is not below 0 and has no minus.
 unfoldable pub dollarsOf : ℤ → List ℕ
-dollarsOf z = inRow (minusText (negative z) ∷ decimalOf (natAbs z / 10000) ∷ (46 ∷ []) ∷ lastDigits 4 (natAbs z) ∷ [])
+dollarsOf z = inRow (minusText (negative z) ∷ decimalOf (natAbs z / 10_000) ∷ (46 ∷ []) ∷ lastDigits 4 (natAbs z) ∷ [])

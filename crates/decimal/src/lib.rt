@@ -3,7 +3,7 @@ ghost use mathlib.Core.Path.{_≡_};
 ghost use mathlib.Core.List.{[], _∷_};
 ghost use Prim.Native.Nat.{_+_, _≤_, _<_};
 ghost use lib.ListN.{length};
-ghost use Rattle.ground.specs.Put.{Wrote};
+ghost use Rattle.ground.specs.Inner.Put.{Wrote};
 ghost use Rattle.decimal.specs.Decimal.{decimalOf, lastDigits, namedText, minusText, dollarsOf};
 use ground::sign;
 use ground::write;
@@ -96,7 +96,7 @@ pub fn put_dollars(text: &mut [u8], at: usize, amount: i64) -> usize
 {
     let size = sign::size(amount);
     let m = put_minus(text, at, sign::is_negative(amount));
-    let e = put_number(text, m, size / 10000);
+    let e = put_number(text, m, size / 10_000);
     let p = put_byte(text, e, b'.');
     put_last(text, p, 4, size)
 }

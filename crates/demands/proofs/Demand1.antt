@@ -24,7 +24,7 @@ use Rattle.reading.specs.declared.LineRead.the-variants as line
 use Rattle.rewriting.specs.Rewriting.{rewritten}
 use Rattle.settlement.specs.Settle.{outcome}
 use Rattle.balance.specs.Pools.{Found, past, found, poolsIn, poolAt}
-use Rattle.balance.specs.Balance.{answerTo, balancesIn, ifAccepted, balanceOf}
+use Rattle.balance.specs.Balance.{answerTo, balancesIn, balanceIf, balanceOf}
 use Rattle.fervolatro.specs.Answers.{verdictAnswer, writtenAnswer, headingAnswer, entryAnswer, poolAnswer, Called}
 use Rattle.fervolatro.specs.declared.VerdictAnswer.{VerdictAnswer}
 use Rattle.fervolatro.specs.declared.WrittenAnswer.{WrittenAnswer}
@@ -57,8 +57,8 @@ more : (n : ℕ) → OneOf onABook n → OneOf onABalance n
 unfolding has
 more n h = or-true (eqb 15 n) _ h
 
-pooled : (b : List ℕ) (v : Verdict) → verdict b ≡ v → (f : Found) (r : PoolAnswer) → r ≡ poolAnswer (ifAccepted v (answerTo (bookOf b) f)) → PoolAnswered r
-unfolding poolAnswer ifAccepted answerTo has
+pooled : (b : List ℕ) (v : Verdict) → verdict b ≡ v → (f : Found) (r : PoolAnswer) → r ≡ poolAnswer (balanceIf v (answerTo (bookOf b) f)) → PoolAnswered r
+unfolding poolAnswer balanceIf answerTo has
 pooled b Accepted e past r a = inr (rw a (refl, refl))
 pooled b Accepted e (found p) r a = inl (rw a (refl, refl))
 pooled b (Refused number place) e f r a = inr (rw a (more number (verdict-numbers b number place e), refl))

@@ -28,7 +28,7 @@ use Rattle.reading.proofs.Trip.{read-and-written}
 use Rattle.rewriting.specs.Rewriting.{rewritten}
 use Rattle.settlement.specs.Settle.{headingOf, statementOf, outcome}
 use Rattle.balance.specs.Pools.{Pool, Found, past, found, poolsIn, poolAt, inPool}
-use Rattle.balance.specs.Balance.{sumZ, accountsOf, poolLines, lineCount, lineSum, balanceIn, answerTo, balancesIn, ifAccepted, balanceOf}
+use Rattle.balance.specs.Balance.{sumZ, accountsOf, poolLines, lineCount, lineSum, balanceIn, answerTo, balancesIn, balanceIf, balanceOf}
 use Rattle.balance.proofs.Accounts.{each-account-stands-once}
 use Rattle.balance.proofs.Closes.{every-pool-closes}
 use Rattle.trips.specs.ReadBack.{ReadBack}
@@ -143,8 +143,8 @@ module _ (b : List ℕ) (bytes : AreBytes b) (number : ℕ) where
         closes = rw a (every-pool-closes b v number p e);
       }
 
-  balance-closes : (v : Verdict) → verdict b ≡ v → (f : Found) → poolAt (poolsIn (publicOf (bookOf b))) number ≡ f → (r : PoolAnswer) → r ≡ poolAnswer (ifAccepted v (answerTo (bookOf b) f)) → r .refusal ≡ 0 → PoolCloses b number r
-  unfolding ifAccepted answerTo poolAnswer has
+  balance-closes : (v : Verdict) → verdict b ≡ v → (f : Found) → poolAt (poolsIn (publicOf (bookOf b))) number ≡ f → (r : PoolAnswer) → r ≡ poolAnswer (balanceIf v (answerTo (bookOf b) f)) → r .refusal ≡ 0 → PoolCloses b number r
+  unfolding balanceIf answerTo poolAnswer has
   balance-closes Accepted v past e r a z = absurd (omega (arith, sym (ap (λ (w : PoolAnswer). w .refusal) a) ∙ z))
   balance-closes Accepted v (found p) e r a z = pool-closes v p e r a
   balance-closes (Refused k place) v f e r a z = never (rw (sym (ap (λ (w : PoolAnswer). w .refusal) a) ∙ z) at (verdict-numbers b k place v))

@@ -9,7 +9,7 @@ use native.Mathlib.Omega.{arith}
 use lib.IntN.{ℤ}
 use lib.ListN.{length}
 use Rattle.ground.specs.Le.{le16, le32, le64, int64}
-use Rattle.ground.specs.Sizes.{plusOf, minusOf}
+use Rattle.ground.specs.Sizes.{aboveOf, belowOf}
 use Rattle.sections.specs.First.{andThen, firstBad}
 use Rattle.sections.specs.Order.{risesBy}
 use Rattle.sections.specs.Refusal.{unless, atRecord, earlier, firstOf}
@@ -21,12 +21,12 @@ use Rattle.market.specs.Kinds.{modeWith}
 use Rattle.records.specs.Rules.{termsOk, modeFits, sharesOk}
 use Rattle.factors.specs.Naming.{namedAt}
 use Rattle.factors.specs.Factors.{factorsAt}
-use Rattle.totals.specs.Divisors.{basisOf, shareOf, constraintDivides, contractDivides}
-use Rattle.totals.specs.Sums.{entryAt}
+use Rattle.totals.specs.Divisors.{basisOf, countedIn, constraintDivides, contractDivides}
+use Rattle.totals.specs.Sums.{entryHasSums}
 use Rattle.book.specs.Header.{headerOf}
 use Rattle.book.specs.Book.{bookOf}
 use Rattle.book.specs.Table.{verdict, check1, check2, check3, check4, check5, check6, check7, check8, check9, check10}
-use Rattle.amounts.specs.Pools.{poolsIn, residualOf, halvesOf}
+use Rattle.amounts.specs.Pools.{poolsByMode, residualPools, halvesOf}
 use Rattle.amounts.specs.Shares.{byEnergy, byFactor}
 use Rattle.accounts.specs.Rows.{rowsOf, keep, sumOf, concatMap, joined}
 use Rattle.accounts.specs.Account.{publicOf, rowsOfAccount, ownEnergy}
@@ -42,60 +42,60 @@ use Rattle.demands.specs.Demand3.{Agree}
 
 -- a region with no energy; region 0 has ACE -3, ASOE 6, residual 9
 abbrev nothing : List ℕ
-nothing = written.entry (plus 0) (plus 0) (plus 0)
+nothing = written.entryBytes (plus 0) (plus 0) (plus 0)
 
 abbrev regions : List ℕ
-regions = written.entry (minus 3) (plus 6) (plus 9) ++ nothing ++ nothing ++ nothing ++ nothing
+regions = written.entryBytes (minus 3) (plus 6) (plus 9) ++ nothing ++ nothing ++ nothing ++ nothing
 
 -- contingency raise; factored, with price 120, RCR 10, usage 500,000, RCF -400,000, DRCF -500,000; default, with DRCF -500,000
 abbrev constraints : List ℕ
 constraints =
-    written.constraint 1 1 1 0 (plus 30) 0 0 0 (plus 0) (plus 0)
-    ++ written.constraint 2 9 1 1 (plus 1000) 120 10 500000 (minus 400000) (minus 500000)
-    ++ written.constraint 3 10 1 2 (plus 600) 0 0 0 (plus 0) (minus 500000)
+    written.constraintBytes 1 1 1 0 (plus 30) 0 0 0 (plus 0) (plus 0)
+    ++ written.constraintBytes 2 9 1 1 (plus 1000) 120 10 500_000 (minus 400_000) (minus 500_000)
+    ++ written.constraintBytes 3 10 1 2 (plus 600) 0 0 0 (plus 0) (minus 500_000)
 
 -- all of its benefit in region 0
 abbrev contract : List ℕ
-contract = written.contract 5 1 (plus 100) 1000000 0 0 0 0
+contract = written.contractBytes 5 1 (plus 100) 1_000_000 0 0 0 0
 
 -- account 7's rows
 abbrev ownFactored : List ℕ
-ownFactored = written.unitRow 2 1 7 (plus 300000) (minus 100000)
+ownFactored = written.unitBytes 2 1 7 (plus 300_000) (minus 100_000)
 
 abbrev ownDefault : List ℕ
-ownDefault = written.unitRow 3 1 7 (plus 0) (minus 200000)
+ownDefault = written.unitBytes 3 1 7 (plus 0) (minus 200_000)
 
 -- an energy row in region 0, all of it residual
 abbrev energy : ℕ → ℕ → ℕ → List ℕ
-energy account ace asoe = written.energyRow account 0 (minus ace) (plus asoe) (minus ace) (plus asoe)
+energy account ace asoe = written.energyBytes account 0 (minus ace) (plus asoe) (minus ace) (plus asoe)
 
 -- ---- the two books
 
 abbrev pub bookA : List ℕ
 bookA =
-    written.heading 1 20250608 1 3 5 2 1
+    written.headerBytes 1 20250608 1 3 5 2 1
     ++ regions
     ++ constraints
     ++ ownFactored
-    ++ written.unitRow 2 2 9 (plus 700000) (plus 0)
-    ++ written.unitRow 2 3 9 (minus 600000) (minus 400000)
+    ++ written.unitBytes 2 2 9 (plus 700_000) (plus 0)
+    ++ written.unitBytes 2 3 9 (minus 600_000) (minus 400_000)
     ++ ownDefault
-    ++ written.unitRow 3 3 9 (plus 0) (minus 300000)
+    ++ written.unitBytes 3 3 9 (plus 0) (minus 300_000)
     ++ energy 7 1 2
     ++ energy 9 2 4
     ++ contract
 
 abbrev pub bookB : List ℕ
 bookB =
-    written.heading 1 20250608 1 3 6 3 1
+    written.headerBytes 1 20250608 1 3 6 3 1
     ++ regions
     ++ constraints
     ++ ownFactored
-    ++ written.unitRow 2 2 9 (plus 400000) (plus 0)
-    ++ written.unitRow 2 4 10 (plus 300000) (minus 100000)
-    ++ written.unitRow 2 5 10 (minus 600000) (minus 300000)
+    ++ written.unitBytes 2 2 9 (plus 400_000) (plus 0)
+    ++ written.unitBytes 2 4 10 (plus 300_000) (minus 100_000)
+    ++ written.unitBytes 2 5 10 (minus 600_000) (minus 300_000)
     ++ ownDefault
-    ++ written.unitRow 3 4 10 (plus 0) (minus 300000)
+    ++ written.unitBytes 3 4 10 (plus 0) (minus 300_000)
     ++ energy 7 1 2
     ++ energy 9 1 2
     ++ energy 10 1 2
@@ -107,7 +107,7 @@ unfolding le16 le32 le64 int32 int64
 books-differ e = let p : length bookA ≡ length bookB = ap length e in omega arith
 
 pub two-books-agree : Agree bookA bookB 7
-unfolding le16 le32 le64 int32 int64 verdict check1 check2 check3 check4 check5 check6 check7 check8 check9 check10 firstOf earlier unless atRecord firstBad andThen headerOf isPeriod isDate daysIn entryRow constraintRow unitRow energyRow contractRow plusOf minusOf modeWith termsOk modeFits sharesOk all some namedAt factorsAt basisOf shareOf constraintDivides contractDivides risesBy entryAt total keyed publicOf rowsOfAccount rowsOf keep
+unfolding le16 le32 le64 int32 int64 verdict check1 check2 check3 check4 check5 check6 check7 check8 check9 check10 firstOf earlier unless atRecord firstBad andThen headerOf isPeriod isDate daysIn entryRow constraintRow unitRow energyRow contractRow aboveOf belowOf modeWith termsOk modeFits sharesOk all some namedAt factorsAt basisOf countedIn constraintDivides contractDivides risesBy entryHasSums total keyed publicOf rowsOfAccount rowsOf keep
 two-books-agree = record { first = refl; second = refl; public = refl; own = refl }
 
 -- ---- what both give account 7
@@ -118,5 +118,5 @@ line id part unit amount = record { id = id; part = part; regions = 1; unit = un
 -- contingency 30 x 2 / 6. Factored: FPP 10 x 0.3, used nothing, unused 500 x -0.1; of the residual pools -4, -200 and -250 a third. Default: 600 x -0.2,
 -- and a third of -300. Of each half of 50 a third.
 pub a-statement : linesOf (publicOf (bookOf bookA)) (rowsOfAccount (bookOf bookA) 7) ≡ line 1 2 0 (minus 10) ∷ line 2 3 1 (plus 3) ∷ line 2 4 1 (plus 0) ∷ line 2 5 1 (minus 50) ∷ line 2 6 0 (minus 1) ∷ line 2 7 0 (minus 67) ∷ line 2 8 0 (minus 83) ∷ line 3 5 1 (minus 120) ∷ line 3 8 0 (minus 100) ∷ line 5 9 0 (minus 17) ∷ line 5 10 0 (minus 17) ∷ []
-unfolding le16 le32 le64 int32 int64 headerOf entryRow constraintRow unitRow energyRow contractRow plusOf minusOf modeWith basisOf shareOf total publicOf rowsOfAccount rowsOf keep sumOf concatMap joined ownEnergy poolsIn residualOf halvesOf byEnergy byFactor unitLines restLines entryIn ofConstraint constraintLines regionLines contractLines linesOf
+unfolding le16 le32 le64 int32 int64 headerOf entryRow constraintRow unitRow energyRow contractRow aboveOf belowOf modeWith basisOf countedIn total publicOf rowsOfAccount rowsOf keep sumOf concatMap joined ownEnergy poolsByMode residualPools halvesOf byEnergy byFactor unitLines restLines entryIn ofConstraint constraintLines regionLines contractLines linesOf
 a-statement = refl

@@ -5,7 +5,7 @@ use mathlib.Core.Bool.{Bool, true, false, cond, _||_}
 use mathlib.Core.List.{List, [], _∷_}
 use native.Mathlib.Omega.{arith}
 use lib.Dec.{eqb}
-use Rattle.ground.specs.Each.{Each}
+use Rattle.ground.specs.Inner.Each.{Each}
 use Rattle.sections.specs.Refusal.{unless, atRecord, earlier, firstOf}
 use Rattle.sections.specs.declared.Checked.{Checked}
 use Rattle.sections.specs.declared.Checked.the-variants.{Good, Bad}
@@ -19,7 +19,7 @@ use Rattle.statement.specs.Lent.{Outcome, refuses, gives}
 use Rattle.lines.specs.Limit.{anyOver}
 use Rattle.reading.specs.Reading.{isStatement}
 use Rattle.rewriting.specs.Rewriting.{rewritten}
-use Rattle.settlement.specs.Settle.{linesOf, settled, ifAccepted, outcome}
+use Rattle.settlement.specs.Settle.{linesOf, settled, outcomeIf, outcome}
 use Rattle.demands.specs.Demand1.{onABook, onAStatement, onRewriting, OneOf}
 
 -- a verdict, and an outcome, that refuses only by one of the numbers
@@ -117,8 +117,8 @@ more : (n : ℕ) → OneOf onABook n → OneOf onAStatement n
 unfolding has
 more n h = or-true (eqb 11 n) _ (or-true (eqb 12 n) _ (or-true (eqb 13 n) _ h))
 
-within-verdict : (v : Verdict) (o : Outcome) → Among onABook v → Within onAStatement o → Within onAStatement (ifAccepted v o)
-unfolding ifAccepted
+within-verdict : (v : Verdict) (o : Outcome) → Among onABook v → Within onAStatement o → Within onAStatement (outcomeIf v o)
+unfolding outcomeIf
 within-verdict Accepted o h w = w
 within-verdict (Refused k at₀) o h w = within-one onAStatement k at₀ (more k (h k at₀ refl))
 

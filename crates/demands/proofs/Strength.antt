@@ -7,7 +7,7 @@ use native.Mathlib.Omega.{arith}
 use borrow.Author.Tests.{eqb-true}
 use lib.Dec.{eqb}
 use lib.IntN.{ℤ, natAbs, _+ℤ_}
-use Rattle.ground.specs.Each.{Each}
+use Rattle.ground.specs.Inner.Each.{Each}
 use Rattle.parties.specs.Once.{has}
 use Rattle.statement.specs.Lent.{Outcome}
 use Rattle.settlement.specs.Settle.{outcome}

@@ -1,5 +1,6 @@
--- Demand 1. "Every input gets an answer. Any bytes, any length: the statement, or a refusal by the number the rules fix, with not one byte of the lent
--- buffer changed. Never 'the caller must check first'." r is what a call answers; of one that is lent a buffer, l is what that held and x what it holds then.
+-- Demand 1. "Every input gets an answer. Any bytes, any length: the statement, or a refusal by the number the rules fix, with not one byte of
+-- the lent buffer changed. Never 'the caller must check first'." r is what a call answers; of one that is lent a buffer, l is what that held
+-- and x what it holds then.
 use Prim.Native.Nat.{ℕ, _≤_, _<_}
 use mathlib.Core.Path.{_≡_}
 use mathlib.Core.Bool.{true}
@@ -91,12 +92,23 @@ EntryAnswered r =
     ((r .refusal ≡ 0) × (r .place ≡ 0))
     ⊎ (OneOf onALine (r .refusal) × (r ≡ record { refusal = r .refusal; place = 0; id = 0; part = 0; regions = 0; unit = 0; amount = pos 0 }))
 
+-- ---- what the writing calls promise
+
+-- the statement call on book b, with a buffer that held l: r is what it answers, x what the buffer holds then
+abbrev pub StatementCall : List ℕ → ℕ → List ℕ → WrittenAnswer → List ℕ → Type 0
+StatementCall b account l r x = Called (outcome b account) l r x
+
+-- the rewriting call on the bytes s, likewise
+abbrev pub RewriteCall : List ℕ → List ℕ → WrittenAnswer → List ℕ → Type 0
+RewriteCall s l r x = Called (rewritten s) l r x
+
 -- ---- the demand, of what each call of the library promises, for every input
 
 pub record EveryInputIsAnswered : Type 0 where
   pub check : (b : List ℕ) (r : VerdictAnswer) → r ≡ verdictAnswer (verdict b) → CheckAnswered b r
-  pub statement : (b : List ℕ) (account : ℕ) (l : List ℕ) (r : WrittenAnswer) (x : List ℕ) → Called (outcome b account) l r x → Answered onAStatement (outcome b account) l r x
+  pub statement : (b : List ℕ) (account : ℕ) (l : List ℕ) (r : WrittenAnswer) (x : List ℕ) → StatementCall b account l r x
+      → Answered onAStatement (outcome b account) l r x
   pub balance : (b : List ℕ) (number : ℕ) (r : PoolAnswer) → r ≡ poolAnswer (balanceOf b number) → PoolAnswered r
   pub header : (s : List ℕ) (r : HeadingAnswer) → r ≡ headingAnswer (headingRead s) → HeadingAnswered r
   pub line : (s : List ℕ) (index : ℕ) (r : EntryAnswer) → r ≡ entryAnswer (lineRead s index) → EntryAnswered r
-  pub rewrite : (s l : List ℕ) (r : WrittenAnswer) (x : List ℕ) → Called (rewritten s) l r x → Answered onRewriting (rewritten s) l r x
+  pub rewrite : (s l : List ℕ) (r : WrittenAnswer) (x : List ℕ) → RewriteCall s l r x → Answered onRewriting (rewritten s) l r x

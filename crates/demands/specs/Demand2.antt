@@ -1,5 +1,5 @@
--- Demand 2. "Every line is the guide's, to the stated rounding, sign included. Each pool's lines over all accounts miss its amount by no more than the
--- stated half units. A statement written and read gives the same lines; read and written, the same bytes."
+-- Demand 2. "Every line is the guide's, to the stated rounding, sign included. Each pool's lines over all accounts miss its amount by no more
+-- than the stated half units. A statement written and read gives the same lines; read and written, the same bytes."
 use Prim.Native.Nat.{ℕ, zero, suc, _+_, _*_, _≤_, _<_, _^_}
 use mathlib.Core.Path.{_≡_}
 use mathlib.Core.Bool.{cond, not}
@@ -14,29 +14,33 @@ use Rattle.accounts.specs.Rows.{keep, sumOf}
 use Rattle.accounts.specs.Account.{publicOf, rowsOfAccount, unknown}
 use Rattle.parties.specs.Once.{times}
 use Rattle.statement.specs.Statement.{statementBytes}
+use Rattle.statement.specs.declared.Heading.{Heading}
 use Rattle.statement.specs.declared.Line.{Line}
 use Rattle.reading.specs.Calls.{headingRead, lineRead}
 use Rattle.reading.specs.declared.LineRead.{LineRead}
 use Rattle.reading.specs.declared.LineRead.the-variants as line
 use Rattle.reading.specs.declared.HeadingRead.the-variants as heading
-use Rattle.rewriting.specs.Rewriting.{rewritten}
-use Rattle.settlement.specs.Settle.{headingOf, outcome}
+use Rattle.settlement.specs.Settle.{headingOf}
 use Rattle.balance.specs.Pools.{Pool, found, poolsIn, poolAt, inPool}
 use Rattle.balance.specs.Balance.{sumZ, accountsOf, balanceOf}
 use Rattle.guide.specs.Signed.{signedBook}
 use Rattle.guide.specs.Guide.{guideLines}
 use Rattle.guide.specs.Checks.{RangesAgree, FactorSums, EntrySums}
-use Rattle.fervolatro.specs.Answers.{verdictAnswer, headingAnswer, entryAnswer, poolAnswer, Called}
+use Rattle.fervolatro.specs.Answers.{verdictAnswer, headingAnswer, entryAnswer, poolAnswer}
 use Rattle.fervolatro.specs.declared.VerdictAnswer.{VerdictAnswer}
 use Rattle.fervolatro.specs.declared.WrittenAnswer.{WrittenAnswer}
 use Rattle.fervolatro.specs.declared.PoolAnswer.{PoolAnswer}
-use Rattle.demands.specs.Demand1.{Gives}
+use Rattle.demands.specs.Demand1.{Gives, StatementCall, RewriteCall}
 
 -- ---- the statement
 
--- an account's statement: its header, "interval, date and run as in the book", and the guide's lines
+-- the header of an account's statement: "interval, date and run as in the book", and how many lines the guide gives it
+abbrev pub guideHeading : List ℕ → ℕ → Heading
+guideHeading b account = headingOf account (publicOf (bookOf b)) (length (guideLines b account))
+
+-- an account's statement: that header, and the guide's lines
 abbrev pub guideStatement : List ℕ → ℕ → List ℕ
-guideStatement b account = statementBytes (headingOf account (publicOf (bookOf b)) (length (guideLines b account))) (guideLines b account)
+guideStatement b account = statementBytes (guideHeading b account) (guideLines b account)
 
 -- line i of a list: "numbered from 0"; 15 past the end
 unfoldable pub numbered : List Line → ℕ → LineRead
@@ -52,17 +56,17 @@ pub record StatementIsTheGuides (b : List ℕ) (account : ℕ) (l : List ℕ) (r
   -- "every line is the guide's", and so is the header
   pub bytes : Gives (guideStatement b account) l r x
   -- "a statement written and read gives the same lines": what the header call and the line call then answer of it
-  pub heading : headingAnswer (headingRead (front r x)) ≡ headingAnswer (heading.Heading (headingOf account (publicOf (bookOf b)) (length (guideLines b account))))
+  pub heading : headingAnswer (headingRead (front r x)) ≡ headingAnswer (heading.Heading (guideHeading b account))
   pub lines : (index : ℕ) → entryAnswer (lineRead (front r x) index) ≡ entryAnswer (numbered (guideLines b account) index)
 
 -- ---- the balance
 
 -- an account's lines in a pool
-abbrev pub linesIn : List ℕ → Pool → ℕ → List Line
-linesIn b p account = keep (inPool p) (guideLines b account)
+abbrev pub guideLinesIn : List ℕ → Pool → ℕ → List Line
+guideLinesIn b p account = keep (inPool p) (guideLines b account)
 
--- 01, Balance: "Amount plus sum is at most half a unit of money per line, and one half more for a regulation or FPP pool, or one half more per benefiting
--- region for a contract, in size": so many half units
+-- 01, Balance: "Amount plus sum is at most half a unit of money per line, and one half more for a regulation or FPP pool, or one half more
+-- per benefiting region for a contract, in size": so many half units
 abbrev pub halfUnits : Pool → ℕ → ℕ
 halfUnits p lines = lines + p .stages
 
@@ -73,14 +77,14 @@ pub record PoolCloses (b : List ℕ) (number : ℕ) (r : PoolAnswer) : Type 0 wh
   -- "all accounts (each that 11 lets pass)": each stands there once
   pub everyone : (account : ℕ) → times account (accountsOf (bookOf b)) ≡ cond (not (unknown (rowsOfAccount (bookOf b) account))) 1 0
   -- "how many lines all accounts have in that pool, and their sum"
-  pub lines : r .lines ≡ sumOf (λ a. length (linesIn b pool a)) (accountsOf (bookOf b))
-  pub sum : r .sum ≡ sumZ (λ a. sumZ (λ (l : Line). l .amount) (linesIn b pool a)) (accountsOf (bookOf b))
+  pub lines : r .lines ≡ sumOf (λ a. length (guideLinesIn b pool a)) (accountsOf (bookOf b))
+  pub sum : r .sum ≡ sumZ (λ a. sumZ (λ (l : Line). l .amount) (guideLinesIn b pool a)) (accountsOf (bookOf b))
   pub closes : 2 * natAbs (r .amount +ℤ r .sum) ≤ halfUnits pool (r .lines)
 
 -- ---- the book
 
--- the numbers of an accepted book are the papers': check 5's ranges are those of the signed numbers, and checks 8 and 9 are the papers' sums, of the
--- factors of each constraint with its units', and of the energies of each region with its rows'
+-- the numbers of an accepted book are the papers': check 5's ranges are those of the signed numbers, and checks 8 and 9 are the papers' sums,
+-- of the factors of each constraint with its units', and of the energies of each region with its rows'
 pub record NumbersAreTheGuides (b : List ℕ) : Type 0 where
   pub ranges : RangesAgree (bookOf b) (signedBook b)
   pub factors : (j : ℕ) → j < headerOf b .constraints → FactorSums (signedBook b) (signedBook b .constraint j)
@@ -90,7 +94,9 @@ pub record NumbersAreTheGuides (b : List ℕ) : Type 0 where
 
 pub record EveryLineIsTheGuides : Type 0 where
   pub check : (b : List ℕ) → AreBytes b → (r : VerdictAnswer) → r ≡ verdictAnswer (verdict b) → r .refusal ≡ 0 → NumbersAreTheGuides b
-  pub statement : (b : List ℕ) → AreBytes b → (account : ℕ) → account < 2 ^ 32 → (l : List ℕ) (r : WrittenAnswer) (x : List ℕ) → Called (outcome b account) l r x → r .refusal ≡ 0 → StatementIsTheGuides b account l r x
-  pub balance : (b : List ℕ) → AreBytes b → (number : ℕ) (r : PoolAnswer) → r ≡ poolAnswer (balanceOf b number) → r .refusal ≡ 0 → PoolCloses b number r
+  pub statement : (b : List ℕ) → AreBytes b → (account : ℕ) → account < 2 ^ 32 → (l : List ℕ) (r : WrittenAnswer) (x : List ℕ)
+      → StatementCall b account l r x → r .refusal ≡ 0 → StatementIsTheGuides b account l r x
+  pub balance : (b : List ℕ) → AreBytes b → (number : ℕ) (r : PoolAnswer) → r ≡ poolAnswer (balanceOf b number) → r .refusal ≡ 0
+      → PoolCloses b number r
   -- "read and written, the same bytes"
-  pub rewrite : (s : List ℕ) → AreBytes s → (l : List ℕ) (r : WrittenAnswer) (x : List ℕ) → Called (rewritten s) l r x → r .refusal ≡ 0 → Gives s l r x
+  pub rewrite : (s : List ℕ) → AreBytes s → (l : List ℕ) (r : WrittenAnswer) (x : List ℕ) → RewriteCall s l r x → r .refusal ≡ 0 → Gives s l r x

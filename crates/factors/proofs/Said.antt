@@ -8,14 +8,16 @@ use lib.Dec.{eqb}
 use native.Mathlib.Omega.{arith}
 use Rattle.ground.proofs.Every.{every}
 use Rattle.sections.specs.First.{firstBad}
-use Rattle.sections.specs.Walk.{Names}
+use Rattle.sections.specs.Inner.Walk.{Names}
 use Rattle.sections.specs.declared.Checked.the-variants.{Good}
 use Rattle.sections.proofs.First.{first-each}
 use Rattle.sections.proofs.Search.{some-found}
 use Rattle.records.specs.declared.rows.Constraint.{Constraint}
 use Rattle.records.specs.declared.rows.UnitRow.{UnitRow}
-use Rattle.factors.specs.Naming.{idOf, keyOf, namedAt, Owner}
-use Rattle.factors.specs.Factors.{factorsOk, factorsAt, sumOver, noFactor, Whole, Plain}
+use Rattle.factors.specs.Naming.{idOf, keyOf, namedAt}
+use Rattle.factors.specs.Inner.Facts.{Owner}
+use Rattle.factors.specs.Factors.{factorsOk, factorsAt, sumOver, noFactor}
+use Rattle.factors.specs.Inner.Facts.{Whole, Plain}
 use Rattle.factors.proofs.Runs.{none-is}
 
 -- ---- check 7
@@ -44,30 +46,30 @@ or-none : (a : Bool) → (a || false) ≡ true → a ≡ true
 or-none true e = refl
 or-none false e = e
 
-whole : (r : Constraint) (plus minus dcf : ℕ) (none : Bool) → r .mode ≡ 1 → factorsOk r plus minus dcf none ≡ true → Whole r plus minus dcf
-whole r plus minus dcf none m e =
+whole : (r : Constraint) (pcf ncf dcf : ℕ) (none : Bool) → r .mode ≡ 1 → factorsOk r pcf ncf dcf none ≡ true → Whole r pcf ncf dcf
+whole r pcf ncf dcf none m e =
     let h =
-    every (eqb (plus + r .plus) (minus + r .minus) ∷ eqb (minus + r .minus) 1000000 ∷ eqb (dcf + r .drcf) 1000000 ∷ [])
+    every (eqb (pcf + r .prcf) (ncf + r .nrcf) ∷ eqb (ncf + r .nrcf) 1_000_000 ∷ eqb (dcf + r .drcf) 1_000_000 ∷ [])
     (or-none _ (rw m at e))
     in
-    let b = eqb-true (minus + r .minus) 1000000 (h .1 .0) in
+    let b = eqb-true (ncf + r .nrcf) 1_000_000 (h .1 .0) in
     record {
-      plus = eqb-true (plus + r .plus) (minus + r .minus) (h .0) ∙ b;
-      minus = b;
-      dcf = eqb-true (dcf + r .drcf) 1000000 (h .1 .1 .0);
+      pcf = eqb-true (pcf + r .prcf) (ncf + r .nrcf) (h .0) ∙ b;
+      ncf = b;
+      dcf = eqb-true (dcf + r .drcf) 1_000_000 (h .1 .1 .0);
     }
 
-plain : (r : Constraint) (plus minus dcf : ℕ) (none : Bool) → eqb (plus + minus) 0 ≡ none → r .mode ≡ 2 → factorsOk r plus minus dcf none ≡ true → Plain r plus minus dcf
-plain r plus minus dcf none z m e =
-    let h = every (none ∷ eqb (dcf + r .drcf) 1000000 ∷ []) (rw m at e) in
-    let s = eqb-true (plus + minus) 0 (z ∙ h .0) in
-    record { plus = omega arith; minus = omega arith; dcf = eqb-true (dcf + r .drcf) 1000000 (h .1 .0) }
+plain : (r : Constraint) (pcf ncf dcf : ℕ) (none : Bool) → eqb (pcf + ncf) 0 ≡ none → r .mode ≡ 2 → factorsOk r pcf ncf dcf none ≡ true → Plain r pcf ncf dcf
+plain r pcf ncf dcf none z m e =
+    let h = every (none ∷ eqb (dcf + r .drcf) 1_000_000 ∷ []) (rw m at e) in
+    let s = eqb-true (pcf + ncf) 0 (z ∙ h .0) in
+    record { pcf = omega arith; ncf = omega arith; dcf = eqb-true (dcf + r .drcf) 1_000_000 (h .1 .0) }
 
 module _ (unit : ℕ → UnitRow) (m : ℕ) (con : ℕ → Constraint) (n : ℕ) (g : firstBad (factorsAt unit m con) n ≡ Good) (j : ℕ) (l : j < n) where
-  pub whole-of : con j .mode ≡ 1 → Whole (con j) (sumOver unit m (con j .id) (λ r. r .plus)) (sumOver unit m (con j .id) (λ r. r .minus)) (sumOver unit m (con j .id) (λ r. r .dcf))
+  pub whole-of : con j .mode ≡ 1 → Whole (con j) (sumOver unit m (con j .id) (λ r. r .pcf)) (sumOver unit m (con j .id) (λ r. r .ncf)) (sumOver unit m (con j .id) (λ r. r .dcf))
   unfolding factorsAt
   whole-of q = whole (con j) _ _ _ _ q (first-each (factorsAt unit m con) n g j l)
 
-  pub plain-of : con j .mode ≡ 2 → Plain (con j) (sumOver unit m (con j .id) (λ r. r .plus)) (sumOver unit m (con j .id) (λ r. r .minus)) (sumOver unit m (con j .id) (λ r. r .dcf))
+  pub plain-of : con j .mode ≡ 2 → Plain (con j) (sumOver unit m (con j .id) (λ r. r .pcf)) (sumOver unit m (con j .id) (λ r. r .ncf)) (sumOver unit m (con j .id) (λ r. r .dcf))
   unfolding factorsAt
   plain-of q = plain (con j) _ _ _ (noFactor unit m (con j .id)) (none-is unit m (con j .id)) q (first-each (factorsAt unit m con) n g j l)

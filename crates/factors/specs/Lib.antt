@@ -1,3 +1,3 @@
 pub mod Naming
 pub mod Factors
-pub mod Runs
+pub mod Inner

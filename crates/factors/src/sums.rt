@@ -4,12 +4,13 @@ ghost use mathlib.Core.Path.{_≡_};
 ghost use Prim.Native.Nat.{_+_, _*_, _≤_};
 ghost use lib.ListN.{length};
 ghost use Rattle.sections.specs.First.{firstBad};
-ghost use Rattle.sections.specs.Order.{Rises};
-ghost use Rattle.sections.specs.Walk.{Stands, Names};
+ghost use Rattle.sections.specs.Inner.Order.{Rises};
+ghost use Rattle.sections.specs.Inner.Walk.{Stands, Names};
 ghost use Rattle.records.specs.Rows.{constraintRow, unitRow};
 ghost use Rattle.factors.specs.Naming.{idOf, keyOf};
-ghost use Rattle.factors.specs.Factors.{sumsOk, factorsAt};
-ghost use Rattle.factors.specs.Runs.{Added, RunOf, Walked};
+ghost use Rattle.factors.specs.Factors.{factorsAt};
+ghost use Rattle.factors.specs.Inner.Facts.{sumsOk};
+ghost use Rattle.factors.specs.Inner.Runs.{FactorsAdded, RunOf, Walked};
 use market::Mode;
 use records::rows;
 use records::rows::Constraint;
@@ -19,14 +20,14 @@ use sections::Checked;
 // The sums over a run of unit rows, by their sizes, and the row behind it.
 pub struct Sums {
     pub next: usize,
-    pub plus: u64,
-    pub minus: u64,
+    pub pcf: u64,
+    pub ncf: u64,
     pub dcf: u64,
 }
 
 // A sum over at most 600 rows, and one row's size more.
 fn more(sum: u64, by: u32) -> u64
-    requires { ⌜ sum ≤ 3000000000000 ⌝ }
+    requires { ⌜ sum ≤ 3_000_000_000_000 ⌝ }
     ensures { λ r. ⌜ r ≡ sum + by ⌝ }
 {
     sum + (by as u64)
@@ -34,28 +35,28 @@ fn more(sum: u64, by: u32) -> u64
 
 // The sums with one row more.
 pub fn add(t: Sums, r: UnitRow) -> Sums
-    requires { ⌜ (t .next ≤ 600) × ((t .plus ≤ 3000000000000) × ((t .minus ≤ 3000000000000) × (t .dcf ≤ 3000000000000))) ⌝ }
-    ensures { λ x. ⌜ Added t r x ⌝ }
+    requires { ⌜ (t .next ≤ 600) × ((t .pcf ≤ 3_000_000_000_000) × ((t .ncf ≤ 3_000_000_000_000) × (t .dcf ≤ 3_000_000_000_000))) ⌝ }
+    ensures { λ x. ⌜ FactorsAdded t r x ⌝ }
 {
     Sums {
         next: t.next + 1,
-        plus: more(t.plus, r.plus),
-        minus: more(t.minus, r.minus),
+        pcf: more(t.pcf, r.pcf),
+        ncf: more(t.ncf, r.ncf),
         dcf: more(t.dcf, r.dcf),
     }
 }
 
 // Whether the sums of a constraint's rows keep its rule.
 pub fn sums_ok(r: Constraint, t: Sums) -> bool
-    requires { ⌜ (t .plus ≤ 600000000) × ((t .minus ≤ 600000000) × (t .dcf ≤ 600000000)) ⌝ }
-    ensures { λ b. ⌜ b ≡ sumsOk r (t .plus) (t .minus) (t .dcf) ⌝ }
+    requires { ⌜ (t .pcf ≤ 600_000_000) × ((t .ncf ≤ 600_000_000) × (t .dcf ≤ 600_000_000)) ⌝ }
+    ensures { λ b. ⌜ b ≡ sumsOk r (t .pcf) (t .ncf) (t .dcf) ⌝ }
 {
-    let plus = more(t.plus, r.plus);
-    let minus = more(t.minus, r.minus);
+    let pcf = more(t.pcf, r.prcf);
+    let ncf = more(t.ncf, r.nrcf);
     let dcf = more(t.dcf, r.drcf);
     (r.mode == Mode::CONTINGENCY)
-        | ((r.mode == Mode::FACTORED) & (plus == minus) & (minus == 1000000) & (dcf == 1000000))
-        | ((r.mode == Mode::DEFAULT) & (t.plus + t.minus == 0) & (dcf == 1000000))
+        | ((r.mode == Mode::FACTORED) & (pcf == ncf) & (ncf == 1_000_000) & (dcf == 1_000_000))
+        | ((r.mode == Mode::DEFAULT) & (t.pcf + t.ncf == 0) & (dcf == 1_000_000))
 }
 
 // The sums over the rows of one constraint, from the first of them on.
@@ -67,8 +68,8 @@ fn run(units: &[u8], m: usize, from: usize, key: u32) -> Sums
 {
     let mut t = Sums {
         next: from,
-        plus: 0,
-        minus: 0,
+        pcf: 0,
+        ncf: 0,
         dcf: 0,
     };
     while t.next < m {

@@ -13,9 +13,11 @@ use mir.Syntax.{w32, w64}
 use mir.Val.{toZ}
 use mir.Facts.{toZ-pos}
 use Rattle.ground.specs.Bytes.{u32At, u64At, partFrom, AreBytes}
-use Rattle.ground.specs.Every.{allOf, Every}
+use Rattle.ground.specs.Every.{allOf}
+use Rattle.ground.specs.Inner.Every.{Every}
 use Rattle.ground.specs.Sign.{less}
-use Rattle.ground.specs.Sizes.{sizeOf, plusOf, minusOf, Sides, above, below, InRange}
+use Rattle.ground.specs.Sizes.{sizeBelow, aboveOf, belowOf, InRange}
+use Rattle.ground.specs.Inner.Sizes.{Sides, above, below}
 use Rattle.ground.proofs.Every.{every, all}
 use Rattle.ground.proofs.Back.{u32-small}
 use Rattle.ground.proofs.Part.{part-bytes}
@@ -27,13 +29,13 @@ use Rattle.records.specs.Rows.{entryRow, constraintRow, unitRow, energyRow, con
 use Rattle.records.specs.declared.rows.Constraint.{Constraint}
 use Rattle.factors.specs.Naming.{keyOf}
 use Rattle.factors.specs.Factors.{factorsOk, sumOver, noFactor, factorsAt}
-use Rattle.totals.specs.Sums.{regionOf, aceOf, asoeOf, residualOf, entryTests, entryAt}
+use Rattle.totals.specs.Sums.{regionOf, aceOf, asoeOf, teOf, sumTests, entryHasSums}
 use Rattle.book.specs.Header.{headerOf, unitsFrom, energiesFrom, contractsFrom}
 use Rattle.book.specs.Book.{bookOf}
-use Rattle.book.specs.Facts.{Fields}
+use Rattle.book.specs.Inner.Facts.{Fields}
 use Rattle.book.specs.Table.{check5}
 use Rattle.book.proofs.Steps.{fields-of}
-use Rattle.guide.specs.Numbers.{min0, million}
+use Rattle.guide.specs.Numbers.{min0, wholeFactor}
 use Rattle.guide.specs.Signed as signed
 use Rattle.guide.specs.Signed.{SignedConstraint, constraintAt, unitAt, energyAt, contractAt, te, signedBook}
 use Rattle.guide.specs.Checks.{RangesAgree, unitSum, FactorSums, regionSum, EntrySums}
@@ -67,22 +69,22 @@ no-sides {x} {m} {n} s = (there s, back s)
 -- ---- check 5
 
 module _ (s : List ℕ) (a : AreBytes s) (k : ℕ) where
-  up-to-zero : (limit : ℕ) → limit < 2 ^ 31 → (sizeOf (u32At s k) ≤ limit) ↔ InRange (negℤ (pos limit)) (pos 0) (toZ w32 (u32At s k))
+  up-to-zero : (limit : ℕ) → limit < 2 ^ 31 → (sizeBelow (u32At s k) ≤ limit) ↔ InRange (negℤ (pos limit)) (pos 0) (toZ w32 (u32At s k))
   up-to-zero limit l = minus-to-zero limit (u32At s k) l (u32-small s a k)
 
   from-zero : (limit : ℕ) → limit < 2 ^ 31 → (u32At s k ≤ limit) ↔ InRange (pos 0) (pos limit) (toZ w32 (u32At s k))
   from-zero limit l = zero-to w32 limit (u32At s k) l
 
-  either : (limit : ℕ) → ((plusOf (u32At s k) ≤ limit) × (minusOf (u32At s k) ≤ limit)) ↔ InRange (negℤ (pos limit)) (pos limit) (toZ w32 (u32At s k))
+  either : (limit : ℕ) → ((aboveOf (u32At s k) ≤ limit) × (belowOf (u32At s k) ≤ limit)) ↔ InRange (negℤ (pos limit)) (pos limit) (toZ w32 (u32At s k))
   either limit = either-way limit (u32At s k) (u32-small s a k)
 
   -- from or up to the number that stands at another place
-  up-from : (m : ℕ) → sizeOf (u32At s m) ≤ 20000000 → (sizeOf (u32At s k) ≤ sizeOf (u32At s m)) ↔ InRange (toZ w32 (u32At s m)) (pos 0) (toZ w32 (u32At s k))
+  up-from : (m : ℕ) → sizeBelow (u32At s m) ≤ 20_000_000 → (sizeBelow (u32At s k) ≤ sizeBelow (u32At s m)) ↔ InRange (toZ w32 (u32At s m)) (pos 0) (toZ w32 (u32At s k))
   up-from m l =
-      subst (λ (x : ℤ). (sizeOf (u32At s k) ≤ sizeOf (u32At s m)) ↔ InRange x (pos 0) (toZ w32 (u32At s k))) (sym (minus-is (u32At s m) (u32-small s a m) (omega arith)))
-      (up-to-zero (sizeOf (u32At s m)) (omega arith))
+      subst (λ (x : ℤ). (sizeBelow (u32At s k) ≤ sizeBelow (u32At s m)) ↔ InRange x (pos 0) (toZ w32 (u32At s k))) (sym (minus-is (u32At s m) (u32-small s a m) (omega arith)))
+      (up-to-zero (sizeBelow (u32At s m)) (omega arith))
 
-  up-to : (m : ℕ) → u32At s m ≤ 20000000 → (u32At s k ≤ u32At s m) ↔ InRange (pos 0) (toZ w32 (u32At s m)) (toZ w32 (u32At s k))
+  up-to : (m : ℕ) → u32At s m ≤ 20_000_000 → (u32At s k ≤ u32At s m) ↔ InRange (pos 0) (toZ w32 (u32At s m)) (toZ w32 (u32At s k))
   up-to m l =
       let h : u32At s m < 2 ^ 31 = omega arith in
       subst (λ (x : ℤ). (u32At s k ≤ u32At s m) ↔ InRange (pos 0) x (toZ w32 (u32At s k))) (sym (toZ-pos w32 h)) (from-zero (u32At s m) h)
@@ -101,29 +103,29 @@ check-5-is-the-guides b a =
     let a₃ = part-bytes (unitsFrom (headerOf b)) b a in
     let a₄ = part-bytes (energiesFrom (headerOf b)) b a in
     record {
-      totalAce = λ g. up-to-zero s₁ a₁ (g * 12) 20000000 (omega arith);
-      totalAsoe = λ g. from-zero s₁ a₁ (g * 12 + 4) 20000000 (omega arith);
-      residual = λ g. from-zero s₁ a₁ (g * 12 + 8) 20000000 (omega arith);
-      cost = λ j. zero-to w64 50000000000 (u64At s₂ (j * 40 + 8)) (omega arith);
-      rcf = λ j. either s₂ a₂ (j * 40 + 28) 1000000;
-      drcf = λ j. up-to-zero s₂ a₂ (j * 40 + 32) 1000000 (omega arith);
-      cf = λ u. either s₃ a₃ (u * 20 + 12) 1000000;
-      dcf = λ u. up-to-zero s₃ a₃ (u * 20 + 16) 1000000 (omega arith);
-      ace = λ i. up-to-zero s₄ a₄ (i * 24 + 8) 20000000 (omega arith);
-      asoe = λ i. from-zero s₄ a₄ (i * 24 + 12) 20000000 (omega arith);
+      totalAce = λ g. up-to-zero s₁ a₁ (g * 12) 20_000_000 (omega arith);
+      totalAsoe = λ g. from-zero s₁ a₁ (g * 12 + 4) 20_000_000 (omega arith);
+      residual = λ g. from-zero s₁ a₁ (g * 12 + 8) 20_000_000 (omega arith);
+      cost = λ j. zero-to w64 50_000_000_000 (u64At s₂ (j * 40 + 8)) (omega arith);
+      rcf = λ j. either s₂ a₂ (j * 40 + 28) 1_000_000;
+      drcf = λ j. up-to-zero s₂ a₂ (j * 40 + 32) 1_000_000 (omega arith);
+      cf = λ u. either s₃ a₃ (u * 20 + 12) 1_000_000;
+      dcf = λ u. up-to-zero s₃ a₃ (u * 20 + 16) 1_000_000 (omega arith);
+      ace = λ i. up-to-zero s₄ a₄ (i * 24 + 8) 20_000_000 (omega arith);
+      asoe = λ i. from-zero s₄ a₄ (i * 24 + 12) 20_000_000 (omega arith);
       restAce = λ i l. up-from s₄ a₄ (i * 24 + 16) (i * 24 + 8) l;
       restAsoe = λ i l. up-to s₄ a₄ (i * 24 + 20) (i * 24 + 12) l;
-      payment = λ k. zero-to w64 50000000000 (u64At s₅ (k * 36 + 8)) (omega arith);
+      payment = λ k. zero-to w64 50_000_000_000 (u64At s₅ (k * 36 + 8)) (omega arith);
     }
 
 -- ---- check 8
 
 -- the tests of a factored constraint, and of one in default mode
 abbrev oneTests : Constraint → ℕ → ℕ → ℕ → List Bool
-oneTests r p m d = eqb (p + r .plus) (m + r .minus) ∷ eqb (m + r .minus) 1000000 ∷ eqb (d + r .drcf) 1000000 ∷ []
+oneTests r p m d = eqb (p + r .prcf) (m + r .nrcf) ∷ eqb (m + r .nrcf) 1_000_000 ∷ eqb (d + r .drcf) 1_000_000 ∷ []
 
 abbrev twoTests : Constraint → ℕ → Bool → List Bool
-twoTests r d none = none ∷ eqb (d + r .drcf) 1000000 ∷ []
+twoTests r d none = none ∷ eqb (d + r .drcf) 1_000_000 ∷ []
 
 module _ (r : Constraint) (p m d : ℕ) (none : Bool) where
   test-zero : r .mode ≡ 0 → factorsOk r p m d none ≡ true
@@ -168,11 +170,11 @@ module _ (b : List ℕ) (a : AreBytes b) (f : Fields (bookOf b)) (j : ℕ) (l : 
   sized = sized-constraint b a f j l
 
   -- the sums of its units' positive CFs, negative CFs and DCFs, by their sizes
-  abbrev plus : ℕ
-  plus = sumOver (bookOf b .unit) (headerOf b .units) (r .id) (λ q. q .plus)
+  abbrev pcf : ℕ
+  pcf = sumOver (bookOf b .unit) (headerOf b .units) (r .id) (λ q. q .pcf)
 
-  abbrev minus : ℕ
-  minus = sumOver (bookOf b .unit) (headerOf b .units) (r .id) (λ q. q .minus)
+  abbrev ncf : ℕ
+  ncf = sumOver (bookOf b .unit) (headerOf b .units) (r .id) (λ q. q .ncf)
 
   abbrev dcf : ℕ
   dcf = sumOver (bookOf b .unit) (headerOf b .units) (r .id) (λ q. q .dcf)
@@ -183,16 +185,16 @@ module _ (b : List ℕ) (a : AreBytes b) (f : Fields (bookOf b)) (j : ℕ) (l : 
   named : ℕ → Bool
   named u = eqb (bookOf b .unit u .constraint) (r .id)
 
-  cf-sum : unitSum (signedBook b) z (λ q. q .cf) ≡ less plus minus
+  cf-sum : unitSum (signedBook b) z (λ q. q .cf) ≡ less pcf ncf
   unfolding unitSum keyed constraintRow constraintAt unitRow unitAt named
   cf-sum =
-      sum-less (λ u. signedBook b .unit u .cf) (λ u. bookOf b .unit u .plus) (λ u. bookOf b .unit u .minus) named (headerOf b .units)
+      sum-less (λ u. signedBook b .unit u .cf) (λ u. bookOf b .unit u .pcf) (λ u. bookOf b .unit u .ncf) named (headerOf b .units)
       (λ u m. sides-less (sized-unit b a f u m .cf))
 
-  negative-sum : unitSum (signedBook b) z (λ q. min0 (q .cf)) ≡ negℤ (pos minus)
+  negative-sum : unitSum (signedBook b) z (λ q. min0 (q .cf)) ≡ negℤ (pos ncf)
   unfolding unitSum keyed constraintRow constraintAt unitRow unitAt named
   negative-sum =
-      sum-minus (λ u. min0 (signedBook b .unit u .cf)) (λ u. bookOf b .unit u .minus) named (headerOf b .units)
+      sum-minus (λ u. min0 (signedBook b .unit u .cf)) (λ u. bookOf b .unit u .ncf) named (headerOf b .units)
       (λ u m. sides-min0 (sized-unit b a f u m .cf))
 
   dcf-sum : unitSum (signedBook b) z (λ q. q .dcf) ≡ negℤ (pos dcf)
@@ -201,14 +203,14 @@ module _ (b : List ℕ) (a : AreBytes b) (f : Fields (bookOf b)) (j : ℕ) (l : 
 
   -- each test and its equation
 
-  whole-test : (eqb (plus + r .plus) (minus + r .minus) ≡ true) ↔ (unitSum (signedBook b) z (λ q. q .cf) +ℤ z .rcf ≡ pos 0)
-  whole-test = less-test (plus + r .plus) (minus + r .minus) (ap₂ _+ℤ_ cf-sum (sides-less (sized .rcf)) ∙ less-plus plus minus (r .plus) (r .minus))
+  whole-test : (eqb (pcf + r .prcf) (ncf + r .nrcf) ≡ true) ↔ (unitSum (signedBook b) z (λ q. q .cf) +ℤ z .rcf ≡ pos 0)
+  whole-test = less-test (pcf + r .prcf) (ncf + r .nrcf) (ap₂ _+ℤ_ cf-sum (sides-less (sized .rcf)) ∙ less-plus pcf ncf (r .prcf) (r .nrcf))
 
-  negative-test : (eqb (minus + r .minus) 1000000 ≡ true) ↔ (unitSum (signedBook b) z (λ q. min0 (q .cf)) +ℤ min0 (z .rcf) ≡ negℤ million)
-  negative-test = minus-test (minus + r .minus) 1000000 (ap₂ _+ℤ_ negative-sum (sides-min0 (sized .rcf)) ∙ minus-plus minus (r .minus)) refl
+  negative-test : (eqb (ncf + r .nrcf) 1_000_000 ≡ true) ↔ (unitSum (signedBook b) z (λ q. min0 (q .cf)) +ℤ min0 (z .rcf) ≡ negℤ wholeFactor)
+  negative-test = minus-test (ncf + r .nrcf) 1_000_000 (ap₂ _+ℤ_ negative-sum (sides-min0 (sized .rcf)) ∙ minus-plus ncf (r .nrcf)) refl
 
-  default-test : (eqb (dcf + r .drcf) 1000000 ≡ true) ↔ (unitSum (signedBook b) z (λ q. q .dcf) +ℤ z .drcf ≡ negℤ million)
-  default-test = minus-test (dcf + r .drcf) 1000000 (ap₂ _+ℤ_ dcf-sum (sized .drcf) ∙ minus-plus dcf (r .drcf)) refl
+  default-test : (eqb (dcf + r .drcf) 1_000_000 ≡ true) ↔ (unitSum (signedBook b) z (λ q. q .dcf) +ℤ z .drcf ≡ negℤ wholeFactor)
+  default-test = minus-test (dcf + r .drcf) 1_000_000 (ap₂ _+ℤ_ dcf-sum (sized .drcf) ∙ minus-plus dcf (r .drcf)) refl
 
   abbrev NoFactor : Type 0
   NoFactor = (u : ℕ) → u < headerOf b .units → signedBook b .unit u .constraint ≡ z .id → signedBook b .unit u .cf ≡ pos 0
@@ -217,16 +219,16 @@ module _ (b : List ℕ) (a : AreBytes b) (f : Fields (bookOf b)) (j : ℕ) (l : 
   none-holds e u m q =
       let s = sized-unit b a f u m in
       no-sides (s .cf) .0
-      (implied (eqb (keyOf (bookOf b .unit) u) (r .id)) (eqb (bookOf b .unit u .plus) 0 && eqb (bookOf b .unit u .minus) 0)
-      (all-each (λ v. not (eqb (keyOf (bookOf b .unit) v) (r .id)) || (eqb (bookOf b .unit v .plus) 0 && eqb (bookOf b .unit v .minus) 0)) (headerOf b .units) e u m)
+      (implied (eqb (keyOf (bookOf b .unit) u) (r .id)) (eqb (bookOf b .unit u .pcf) 0 && eqb (bookOf b .unit u .ncf) 0)
+      (all-each (λ v. not (eqb (keyOf (bookOf b .unit) v) (r .id)) || (eqb (bookOf b .unit v .pcf) 0 && eqb (bookOf b .unit v .ncf) 0)) (headerOf b .units) e u m)
       (eq-eqb (keyOf (bookOf b .unit) u) (r .id) (sym (s .constraint) ∙ q ∙ sized .id)))
 
   none-passes : NoFactor → none ≡ true
   none-passes h =
-      all-of (λ v. not (eqb (keyOf (bookOf b .unit) v) (r .id)) || (eqb (bookOf b .unit v .plus) 0 && eqb (bookOf b .unit v .minus) 0)) (headerOf b .units)
+      all-of (λ v. not (eqb (keyOf (bookOf b .unit) v) (r .id)) || (eqb (bookOf b .unit v .pcf) 0 && eqb (bookOf b .unit v .ncf) 0)) (headerOf b .units)
       (λ u m.
       let s = sized-unit b a f u m in
-      implies (eqb (keyOf (bookOf b .unit) u) (r .id)) (eqb (bookOf b .unit u .plus) 0 && eqb (bookOf b .unit u .minus) 0)
+      implies (eqb (keyOf (bookOf b .unit) u) (r .id)) (eqb (bookOf b .unit u .pcf) 0 && eqb (bookOf b .unit u .ncf) 0)
       (λ t. no-sides (s .cf) .1 (h u m (s .constraint ∙ eqb-true (keyOf (bookOf b .unit) u) (r .id) t ∙ sym (sized .id)))))
 
   -- the whole record's test
@@ -234,7 +236,7 @@ module _ (b : List ℕ) (a : AreBytes b) (f : Fields (bookOf b)) (j : ℕ) (l : 
   by-mode : (r .mode ≡ 0) ⊎ ((r .mode ≡ 1) ⊎ (r .mode ≡ 2))
   by-mode = modes (r .mode) (f .constraints j l .mode)
 
-  factors-hold : factorsOk r plus minus dcf none ≡ true → FactorSums (signedBook b) z
+  factors-hold : factorsOk r pcf ncf dcf none ≡ true → FactorSums (signedBook b) z
   factors-hold e =
       record {
         whole = λ m. whole-test .0 (one (sym (sized .mode) ∙ m) .0);
@@ -246,27 +248,27 @@ module _ (b : List ℕ) (a : AreBytes b) (f : Fields (bookOf b)) (j : ℕ) (l : 
             by-mode;
       }
     where
-      one : r .mode ≡ 1 → Every (oneTests r plus minus dcf)
-      one m = every (oneTests r plus minus dcf) (sym (test-one r plus minus dcf none m) ∙ e)
+      one : r .mode ≡ 1 → Every (oneTests r pcf ncf dcf)
+      one m = every (oneTests r pcf ncf dcf) (sym (test-one r pcf ncf dcf none m) ∙ e)
 
       two : r .mode ≡ 2 → Every (twoTests r dcf none)
-      two m = every (twoTests r dcf none) (sym (test-two r plus minus dcf none m) ∙ e)
+      two m = every (twoTests r dcf none) (sym (test-two r pcf ncf dcf none m) ∙ e)
 
-  factors-pass : FactorSums (signedBook b) z → factorsOk r plus minus dcf none ≡ true
-  factors-pass h = ⊎-elim (test-zero r plus minus dcf none) (λ o. ⊎-elim one two o) by-mode
+  factors-pass : FactorSums (signedBook b) z → factorsOk r pcf ncf dcf none ≡ true
+  factors-pass h = ⊎-elim (test-zero r pcf ncf dcf none) (λ o. ⊎-elim one two o) by-mode
     where
       live : (m : ℕ) → r .mode ≡ suc m → z .mode ≡ 0 → ⊥
       live m e q = omega (arith, sized .mode)
 
-      one : r .mode ≡ 1 → factorsOk r plus minus dcf none ≡ true
+      one : r .mode ≡ 1 → factorsOk r pcf ncf dcf none ≡ true
       one m =
-          test-one r plus minus dcf none m
-          ∙ all (oneTests r plus minus dcf)
+          test-one r pcf ncf dcf none m
+          ∙ all (oneTests r pcf ncf dcf)
           (whole-test .1 (h .whole (sized .mode ∙ m)), (negative-test .1 (h .negatives (sized .mode ∙ m)), (default-test .1 (h .defaults (live 0 m)), tt)))
 
-      two : r .mode ≡ 2 → factorsOk r plus minus dcf none ≡ true
+      two : r .mode ≡ 2 → factorsOk r pcf ncf dcf none ≡ true
       two m =
-          test-two r plus minus dcf none m
+          test-two r pcf ncf dcf none m
           ∙ all (twoTests r dcf none) (none-passes (h .none (sized .mode ∙ m)), (default-test .1 (h .defaults (live 1 m)), tt))
 
 -- for a book whose records keep check 5, check 8 passes a constraint exactly where its factors make 01's sums
@@ -292,7 +294,7 @@ module _ (b : List ℕ) (a : AreBytes b) (f : Fields (bookOf b)) (g : ℕ) (l : 
   unfolding regionSum keyed energyRow energyAt here
   asoe-sum = sum-pos (λ i. signedBook b .energy i .asoe) (λ i. bookOf b .energy i .asoe) here (headerOf b .energies) (λ i m. sized-energy b a f i m .asoe)
 
-  residual-sum : regionSum (signedBook b) g te ≡ pos (inRegion (residualOf (bookOf b .energy)))
+  residual-sum : regionSum (signedBook b) g te ≡ pos (inRegion (teOf (bookOf b .energy)))
   unfolding regionSum keyed energyRow energyAt here
   residual-sum = sum-pos (λ i. te (signedBook b .energy i)) (λ i. bookOf b .energy i .race + bookOf b .energy i .rasoe) here (headerOf b .energies) (λ i m. sized-energy b a f i m .residual)
 
@@ -302,11 +304,11 @@ module _ (b : List ℕ) (a : AreBytes b) (f : Fields (bookOf b)) (g : ℕ) (l : 
   asoe-test : (eqb (bookOf b .entry g .asoe) (inRegion (asoeOf (bookOf b .energy))) ≡ true) ↔ (signedBook b .entry g .asoe ≡ regionSum (signedBook b) g (λ r. r .asoe))
   asoe-test = pos-test (bookOf b .entry g .asoe) (inRegion (asoeOf (bookOf b .energy))) (sized-entry b a f g l .asoe) asoe-sum
 
-  residual-test : (eqb (bookOf b .entry g .residual) (inRegion (residualOf (bookOf b .energy))) ≡ true) ↔ (signedBook b .entry g .residual ≡ regionSum (signedBook b) g te)
-  residual-test = pos-test (bookOf b .entry g .residual) (inRegion (residualOf (bookOf b .energy))) (sized-entry b a f g l .residual) residual-sum
+  residual-test : (eqb (bookOf b .entry g .residual) (inRegion (teOf (bookOf b .energy))) ≡ true) ↔ (signedBook b .entry g .residual ≡ regionSum (signedBook b) g te)
+  residual-test = pos-test (bookOf b .entry g .residual) (inRegion (teOf (bookOf b .energy))) (sized-entry b a f g l .residual) residual-sum
 
   abbrev tests : List Bool
-  tests = entryTests (bookOf b .entry g) (inRegion (aceOf (bookOf b .energy))) (inRegion (asoeOf (bookOf b .energy))) (inRegion (residualOf (bookOf b .energy)))
+  tests = sumTests (bookOf b .entry g) (inRegion (aceOf (bookOf b .energy))) (inRegion (asoeOf (bookOf b .energy))) (inRegion (teOf (bookOf b .energy)))
 
   entry-holds : allOf tests ≡ true → EntrySums (signedBook b) g
   entry-holds t =
@@ -317,6 +319,6 @@ module _ (b : List ℕ) (a : AreBytes b) (f : Fields (bookOf b)) (g : ℕ) (l : 
   entry-passes h = all tests (ace-test .1 (h .ace), (asoe-test .1 (h .asoe), (residual-test .1 (h .residual), tt)))
 
 -- for a book whose records keep check 5, check 9 passes a region's entry exactly where it is its rows' sums
-pub check-9-is-the-guides : (b : List ℕ) → AreBytes b → check5 (bookOf b) ≡ Accepted → (g : ℕ) → g < 5 → (entryAt (bookOf b .energy) (headerOf b .energies) (bookOf b .entry) g ≡ true) ↔ EntrySums (signedBook b) g
-unfolding entryAt
+pub check-9-is-the-guides : (b : List ℕ) → AreBytes b → check5 (bookOf b) ≡ Accepted → (g : ℕ) → g < 5 → (entryHasSums (bookOf b .energy) (headerOf b .energies) (bookOf b .entry) g ≡ true) ↔ EntrySums (signedBook b) g
+unfolding entryHasSums
 check-9-is-the-guides b a e g l = let f = fields-of (bookOf b) e refl in (entry-holds b a f g l, entry-passes b a f g l)

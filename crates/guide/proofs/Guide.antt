@@ -13,7 +13,7 @@ use Rattle.records.specs.declared.rows.Entry.{Entry}
 use Rattle.book.specs.Header.{headerOf}
 use Rattle.book.specs.Book.{bookOf}
 use Rattle.book.specs.Table.{verdict}
-use Rattle.book.specs.Accepted.{ownIn, Promise}
+use Rattle.book.specs.Inner.Accepted.{ownTotal, Promise}
 use Rattle.book.proofs.Promise.{accepted}
 use Rattle.accounts.specs.Rows.{rowsOf, joined}
 use Rattle.accounts.specs.Account.{publicOf, rowsOfAccount, ownEnergy}
@@ -44,7 +44,7 @@ module _ (b : List ℕ) (a : AreBytes b) (p : Promise (bookOf b)) (account : ℕ
   all-sized g l = rw (entry-in (bookOf b .entry) g l) (sized-entry b a (p .fields) g l)
 
   own-sized : (g : ℕ) → SizedEnergies (own g) (guide.ownIn (signedBook b) account g)
-  unfolding ownIn ownEnergy guide.ownIn guide.ownSum energyRow energyAt
+  unfolding ownTotal ownEnergy guide.ownIn guide.ownSum energyRow energyAt
   own-sized g =
       let B = bookOf b in
       let S = signedBook b in

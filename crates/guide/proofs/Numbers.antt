@@ -9,14 +9,14 @@ use borrow.Author.Tests.{le-ltb}
 use lib.IntN.{ℤ, pos, negℤ, natAbs, _+ℤ_, _-ℤ_, _*ℤ_, +ℤ-idl, +ℤ-idr, negℤ-negℤ, negℤ-+ℤ, *ℤ-comm}
 use Rattle.ground.specs.Round.{roundN, roundZ}
 use Rattle.ground.specs.Sign.{less}
-use Rattle.ground.specs.Sizes.{Sides, above, below}
+use Rattle.ground.specs.Inner.Sizes.{Sides, above, below}
 use Rattle.ground.proofs.Rounding.{round-zero, round-signed}
 use Rattle.ground.proofs.Signs.{size-signed}
 use Rattle.ground.proofs.Sizes.{less-plus}
 use Rattle.sections.specs.Total.{total}
 use Rattle.amounts.specs.Shares.{byFactor, byEnergy}
 use Rattle.amounts.proofs.Signed.{charge-shared}
-use Rattle.guide.specs.Numbers.{sum, round, min0, million}
+use Rattle.guide.specs.Numbers.{sum, round, min0, wholeFactor}
 
 -- ---- a number by its two sides
 
@@ -58,9 +58,9 @@ module _ {z : ℤ} {a b : ℕ} where
 
 module _ {z : ℤ} {a b : ℕ} (s : Sides z a b) where
   -- "round(pool x factor / 1,000,000)", of a factor on either side
-  pub factor-sides : {p : ℤ} {pool : ℕ} → p ≡ pos pool → Sides (round (p *ℤ z) million) (roundN (pool * a) 1000000) (roundN (pool * b) 1000000)
+  pub factor-sides : {p : ℤ} {pool : ℕ} → p ≡ pos pool → Sides (round (p *ℤ z) wholeFactor) (roundN (pool * a) 1_000_000) (roundN (pool * b) 1_000_000)
   unfolding round
-  factor-sides {pool = pool} e = rw e (rounded 1000000 (times pool s))
+  factor-sides {pool = pool} e = rw e (rounded 1_000_000 (times pool s))
 
   -- "round(residual pool x TE / ATE)", of a pool on either side
   pub energy-sides : {x y : ℤ} {own total : ℕ} → x ≡ pos own → y ≡ pos total → Sides (round (z *ℤ x) y) (roundN (a * own) total) (roundN (b * own) total)
@@ -68,11 +68,11 @@ module _ {z : ℤ} {a b : ℕ} (s : Sides z a b) where
   energy-sides {own = own} {total = total} e f =
       rw (e, f, *ℤ-comm z (pos own), mul-comm a own, mul-comm b own) (rounded total (times own s))
 
-pub factor-minus : (b : ℕ) {z p : ℤ} {pool : ℕ} → z ≡ negℤ (pos b) → p ≡ pos pool → round (p *ℤ z) million ≡ negℤ (pos (roundN (pool * b) 1000000))
+pub factor-minus : (b : ℕ) {z p : ℤ} {pool : ℕ} → z ≡ negℤ (pos b) → p ≡ pos pool → round (p *ℤ z) wholeFactor ≡ negℤ (pos (roundN (pool * b) 1_000_000))
 unfolding round
-factor-minus b {pool = pool} e f = rw (e, f) (ap (λ (x : ℤ). roundZ x 1000000) (times-minus pool b) ∙ round-signed true (pool * b) 1000000)
+factor-minus b {pool = pool} e f = rw (e, f) (ap (λ (x : ℤ). roundZ x 1_000_000) (times-minus pool b) ∙ round-signed true (pool * b) 1_000_000)
 
-pub by-factor : {z p : ℤ} {a b pool : ℕ} → Sides z a b → p ≡ pos pool → byFactor pool a b ≡ round (p *ℤ z) million
+pub by-factor : {z p : ℤ} {a b pool : ℕ} → Sides z a b → p ≡ pos pool → byFactor pool a b ≡ round (p *ℤ z) wholeFactor
 unfolding byFactor
 by-factor s e = sym (sides-less (factor-sides s e))
 

@@ -10,14 +10,15 @@ use mir.Syntax.{w32, w64}
 use mir.Val.{toZ}
 use mir.Facts.{toZ-pos}
 use Rattle.ground.specs.Bytes.{u32At, u64At, partFrom, AreBytes}
-use Rattle.ground.specs.Sizes.{sizeOf, plusOf, minusOf, Sides}
+use Rattle.ground.specs.Sizes.{sizeBelow, aboveOf, belowOf}
+use Rattle.ground.specs.Inner.Sizes.{Sides}
 use Rattle.ground.proofs.Back.{u32-small}
 use Rattle.ground.proofs.Part.{part-bytes}
 use Rattle.ground.proofs.Signs.{size-signed}
 use Rattle.ground.proofs.Sizes.{sides-of, minus-is}
 use Rattle.records.specs.Rows.{entryRow, constraintRow, unitRow, energyRow, contractRow}
 use Rattle.records.specs.Rules.{factorOf}
-use Rattle.records.specs.Facts.{EntryRule, ConstraintRule, UnitRule, EnergyRule, ContractRule}
+use Rattle.records.specs.Inner.Facts.{EntryRule, ConstraintRule, UnitRule, EnergyRule, ContractRule}
 use Rattle.records.specs.declared.rows.Entry.{Entry}
 use Rattle.records.specs.declared.rows.Constraint.{Constraint}
 use Rattle.records.specs.declared.rows.UnitRow.{UnitRow}
@@ -25,7 +26,7 @@ use Rattle.records.specs.declared.rows.EnergyRow.{EnergyRow}
 use Rattle.records.specs.declared.rows.Contract.{Contract}
 use Rattle.book.specs.Header.{headerOf, unitsFrom, energiesFrom, contractsFrom}
 use Rattle.book.specs.Book.{bookOf}
-use Rattle.book.specs.Facts.{Fields}
+use Rattle.book.specs.Inner.Facts.{Fields}
 use Rattle.guide.specs.Signed.{Energies, entryAt, SignedConstraint, constraintAt, SignedUnit, unitAt, SignedEnergy, energyAt, te, SignedContract, contractAt, signedBook}
 
 -- ---- what it means, field by field
@@ -44,14 +45,14 @@ pub record SizedConstraint (r : Constraint) (z : SignedConstraint) : Type 0 wher
   pub price : z .price ≡ pos (r .price)
   pub rcr : z .rcr ≡ pos (r .rcr)
   pub usage : z .usage ≡ pos (r .usage)
-  pub rcf : Sides (z .rcf) (r .plus) (r .minus)
+  pub rcf : Sides (z .rcf) (r .prcf) (r .nrcf)
   pub drcf : z .drcf ≡ negℤ (pos (r .drcf))
 
 pub record SizedUnit (q : UnitRow) (z : SignedUnit) : Type 0 where
   pub constraint : z .constraint ≡ q .constraint
   pub unit : z .unit ≡ q .unit
   pub account : z .account ≡ q .account
-  pub cf : Sides (z .cf) (q .plus) (q .minus)
+  pub cf : Sides (z .cf) (q .pcf) (q .ncf)
   pub dcf : z .dcf ≡ negℤ (pos (q .dcf))
 
 pub record SizedEnergy (r : EnergyRow) (z : SignedEnergy) : Type 0 where
@@ -69,16 +70,16 @@ pub record SizedContract (k : Contract) (z : SignedContract) : Type 0 where
 -- ---- one number
 
 module _ (s : List ℕ) (b : AreBytes s) (k : ℕ) where
-  minus-at : sizeOf (u32At s k) < 2 ^ 31 → toZ w32 (u32At s k) ≡ negℤ (pos (sizeOf (u32At s k)))
-  minus-at h = minus-is (u32At s k) (u32-small s b k) h
+  below-at : sizeBelow (u32At s k) < 2 ^ 31 → toZ w32 (u32At s k) ≡ negℤ (pos (sizeBelow (u32At s k)))
+  below-at h = minus-is (u32At s k) (u32-small s b k) h
 
-  plus-at : u32At s k < 2 ^ 31 → toZ w32 (u32At s k) ≡ pos (u32At s k)
-  plus-at h = toZ-pos w32 h
+  above-at : u32At s k < 2 ^ 31 → toZ w32 (u32At s k) ≡ pos (u32At s k)
+  above-at h = toZ-pos w32 h
 
   money-at : u64At s k < 2 ^ 63 → toZ w64 (u64At s k) ≡ pos (u64At s k)
   money-at h = toZ-pos w64 h
 
-  side-at : Sides (toZ w32 (u32At s k)) (plusOf (u32At s k)) (minusOf (u32At s k))
+  side-at : Sides (toZ w32 (u32At s k)) (aboveOf (u32At s k)) (belowOf (u32At s k))
   side-at = sides-of (u32At s k) (u32-small s b k)
 
 -- ---- one record
@@ -92,9 +93,9 @@ module _ (s : List ℕ) (b : AreBytes s) where
   unfolding entryRow entryAt
   entry-sized g r =
       record {
-        ace = minus-at s b (g * 12) (omega (arith, r .ace));
-        asoe = plus-at s b (g * 12 + 4) (omega (arith, r .asoe));
-        residual = plus-at s b (g * 12 + 8) (omega (arith, r .residual));
+        ace = below-at s b (g * 12) (omega (arith, r .ace));
+        asoe = above-at s b (g * 12 + 4) (omega (arith, r .asoe));
+        residual = above-at s b (g * 12 + 8) (omega (arith, r .residual));
       }
 
   constraint-sized : (i : ℕ) → ConstraintRule (constraintRow s i) → SizedConstraint (constraintRow s i) (constraintAt s i)
@@ -110,7 +111,7 @@ module _ (s : List ℕ) (b : AreBytes s) where
         rcr = refl;
         usage = refl;
         rcf = side-at s b (i * 40 + 28);
-        drcf = minus-at s b (i * 40 + 32) (omega (arith, r .drcf));
+        drcf = below-at s b (i * 40 + 32) (omega (arith, r .drcf));
       }
 
   unit-sized : (i : ℕ) → UnitRule (unitRow s i) → SizedUnit (unitRow s i) (unitAt s i)
@@ -121,7 +122,7 @@ module _ (s : List ℕ) (b : AreBytes s) where
         unit = refl;
         account = refl;
         cf = side-at s b (i * 20 + 12);
-        dcf = minus-at s b (i * 20 + 16) (omega (arith, r .dcf));
+        dcf = below-at s b (i * 20 + 16) (omega (arith, r .dcf));
       }
 
   energy-sized : (i : ℕ) → EnergyRule (energyRow s i) → SizedEnergy (energyRow s i) (energyAt s i)
@@ -130,9 +131,9 @@ module _ (s : List ℕ) (b : AreBytes s) where
       record {
         account = refl;
         region = refl;
-        ace = minus-at s b (i * 24 + 8) (omega (arith, r .ace));
-        asoe = plus-at s b (i * 24 + 12) (omega (arith, r .asoe));
-        residual = te-is _ _ _ _ (minus-at s b (i * 24 + 16) (omega (arith, r .race, r .ace))) (plus-at s b (i * 24 + 20) (omega (arith, r .rasoe, r .asoe)));
+        ace = below-at s b (i * 24 + 8) (omega (arith, r .ace));
+        asoe = above-at s b (i * 24 + 12) (omega (arith, r .asoe));
+        residual = te-is _ _ _ _ (below-at s b (i * 24 + 16) (omega (arith, r .race, r .ace))) (above-at s b (i * 24 + 20) (omega (arith, r .rasoe, r .asoe)));
       }
 
   contract-sized : (i : ℕ) → ContractRule (contractRow s i) → SizedContract (contractRow s i) (contractAt s i)

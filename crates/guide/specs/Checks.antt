@@ -6,8 +6,9 @@ use mathlib.Core.Logic.{_↔_}
 use lib.Dec.{eqb}
 use lib.IntN.{ℤ, pos, negℤ, _+ℤ_}
 use Rattle.ground.specs.Sizes.{InRange}
+use Rattle.ground.specs.Units.{million, moneyLimit, energyLimit}
 use Rattle.book.specs.Book.{Book}
-use Rattle.guide.specs.Numbers.{sum, min0, million}
+use Rattle.guide.specs.Numbers.{sum, min0, wholeFactor}
 use Rattle.guide.specs.Signed.{SignedConstraint, SignedUnit, SignedEnergy, te, SignedBook}
 
 -- ---- 5
@@ -20,30 +21,32 @@ abbrev FromZero : ℕ → ℕ → ℤ → Type 0
 FromZero limit size z = (size ≤ limit) ↔ InRange (pos 0) (pos limit) z
 
 abbrev EitherWay : ℕ → ℕ → ℕ → ℤ → Type 0
-EitherWay limit plus minus z = ((plus ≤ limit) × (minus ≤ limit)) ↔ InRange (negℤ (pos limit)) (pos limit) z
+EitherWay limit above below z = ((above ≤ limit) × (below ≤ limit)) ↔ InRange (negℤ (pos limit)) (pos limit) z
 
--- 5: "a field outside the rules above". The tests are of sizes (records/specs/Rules.antt), B's, and each holds exactly where the number of S, with
--- its sign, lies in the range that 01, The book, gives it.
+-- 5: "a field outside the rules above". The tests are of sizes (records/specs/Rules.antt), B's, and each holds exactly where the number of S,
+-- with its sign, lies in the range that 01, The book, gives it.
 pub record RangesAgree (B : Book) (S : SignedBook) : Type 0 where
   -- "total ACE (i32, -20,000,000 to 0), total ASOE (i32, 0 to 20,000,000), residual total (i32, 0 to 20,000,000)"
-  pub totalAce : (g : ℕ) → UpToZero 20000000 (B .entry g .ace) (S .entry g .ace)
-  pub totalAsoe : (g : ℕ) → FromZero 20000000 (B .entry g .asoe) (S .entry g .asoe)
-  pub residual : (g : ℕ) → FromZero 20000000 (B .entry g .residual) (S .entry g .residual)
+  pub totalAce : (g : ℕ) → UpToZero energyLimit (B .entry g .ace) (S .entry g .ace)
+  pub totalAsoe : (g : ℕ) → FromZero energyLimit (B .entry g .asoe) (S .entry g .asoe)
+  pub residual : (g : ℕ) → FromZero energyLimit (B .entry g .residual) (S .entry g .residual)
   -- "cost i64, 0 to 50,000,000,000", "RCF i32, within 1,000,000 either way; DRCF i32, -1,000,000 to 0"
-  pub cost : (j : ℕ) → FromZero 50000000000 (B .constraint j .cost) (S .constraint j .cost)
-  pub rcf : (j : ℕ) → EitherWay 1000000 (B .constraint j .plus) (B .constraint j .minus) (S .constraint j .rcf)
-  pub drcf : (j : ℕ) → UpToZero 1000000 (B .constraint j .drcf) (S .constraint j .drcf)
+  pub cost : (j : ℕ) → FromZero moneyLimit (B .constraint j .cost) (S .constraint j .cost)
+  pub rcf : (j : ℕ) → EitherWay million (B .constraint j .prcf) (B .constraint j .nrcf) (S .constraint j .rcf)
+  pub drcf : (j : ℕ) → UpToZero million (B .constraint j .drcf) (S .constraint j .drcf)
   -- "CF i32, within 1,000,000 either way; DCF i32, -1,000,000 to 0"
-  pub cf : (u : ℕ) → EitherWay 1000000 (B .unit u .plus) (B .unit u .minus) (S .unit u .cf)
-  pub dcf : (u : ℕ) → UpToZero 1000000 (B .unit u .dcf) (S .unit u .dcf)
+  pub cf : (u : ℕ) → EitherWay million (B .unit u .pcf) (B .unit u .ncf) (S .unit u .cf)
+  pub dcf : (u : ℕ) → UpToZero million (B .unit u .dcf) (S .unit u .dcf)
   -- "ACE (i32, -20,000,000 to 0); ASOE (i32, 0 to 20,000,000)"
-  pub ace : (i : ℕ) → UpToZero 20000000 (B .energy i .ace) (S .energy i .ace)
-  pub asoe : (i : ℕ) → FromZero 20000000 (B .energy i .asoe) (S .energy i .asoe)
+  pub ace : (i : ℕ) → UpToZero energyLimit (B .energy i .ace) (S .energy i .ace)
+  pub asoe : (i : ℕ) → FromZero energyLimit (B .energy i .asoe) (S .energy i .asoe)
   -- "residual ACE, from ACE up to 0; residual ASOE, from 0 up to ASOE", where ACE and ASOE keep their own
-  pub restAce : (i : ℕ) → B .energy i .ace ≤ 20000000 → (B .energy i .race ≤ B .energy i .ace) ↔ InRange (S .energy i .ace) (pos 0) (S .energy i .restAce)
-  pub restAsoe : (i : ℕ) → B .energy i .asoe ≤ 20000000 → (B .energy i .rasoe ≤ B .energy i .asoe) ↔ InRange (pos 0) (S .energy i .asoe) (S .energy i .restAsoe)
+  pub restAce : (i : ℕ) → B .energy i .ace ≤ energyLimit
+      → (B .energy i .race ≤ B .energy i .ace) ↔ InRange (S .energy i .ace) (pos 0) (S .energy i .restAce)
+  pub restAsoe : (i : ℕ) → B .energy i .asoe ≤ energyLimit
+      → (B .energy i .rasoe ≤ B .energy i .asoe) ↔ InRange (pos 0) (S .energy i .asoe) (S .energy i .restAsoe)
   -- "payment i64, 0 to 50,000,000,000"
-  pub payment : (k : ℕ) → FromZero 50000000000 (B .contract k .payment) (S .contract k .payment)
+  pub payment : (k : ℕ) → FromZero moneyLimit (B .contract k .payment) (S .contract k .payment)
 
 -- ---- 8
 
@@ -55,9 +58,9 @@ unitSum S r x = sum (λ u. cond (eqb (S .unit u .constraint) (r .id)) (x (S .uni
 -- 002, FPP calculations: Sum(CF) + RCF = 0; Sum(NCF) + NRCF = -1; Sum(DCF) + DRCF = -1
 pub record FactorSums (S : SignedBook) (r : SignedConstraint) : Type 0 where
   pub whole : r .mode ≡ 1 → unitSum S r (λ q. q .cf) +ℤ r .rcf ≡ pos 0
-  pub negatives : r .mode ≡ 1 → unitSum S r (λ q. min0 (q .cf)) +ℤ min0 (r .rcf) ≡ negℤ million
+  pub negatives : r .mode ≡ 1 → unitSum S r (λ q. min0 (q .cf)) +ℤ min0 (r .rcf) ≡ negℤ wholeFactor
   pub none : r .mode ≡ 2 → (u : ℕ) → u < S .header .units → S .unit u .constraint ≡ r .id → S .unit u .cf ≡ pos 0
-  pub defaults : (r .mode ≡ 0 → ⊥) → unitSum S r (λ q. q .dcf) +ℤ r .drcf ≡ negℤ million
+  pub defaults : (r .mode ≡ 0 → ⊥) → unitSum S r (λ q. q .dcf) +ℤ r .drcf ≡ negℤ wholeFactor
 
 -- ---- 9
 

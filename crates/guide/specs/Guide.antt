@@ -10,7 +10,7 @@ use lib.IntN.{ℤ, pos, negℤ, _-ℤ_, _*ℤ_}
 use Rattle.market.specs.Kinds.{raises, bitSet}
 use Rattle.accounts.specs.Rows.{joined}
 use Rattle.statement.specs.declared.Line.{Line}
-use Rattle.guide.specs.Numbers.{sum, round, min0, million}
+use Rattle.guide.specs.Numbers.{sum, round, min0, wholeFactor}
 use Rattle.guide.specs.Signed.{Energies, SignedConstraint, SignedUnit, SignedEnergy, te, SignedContract, SignedBook, signedBook}
 
 -- ---- energies
@@ -41,15 +41,15 @@ fppPool r = round (r .price *ℤ r .rcr) (pos 120)
 
 -- "used = round(cost x usage / 1,000,000)". 000, 2.4.3: TSFCAS × U
 unfoldable pub usedPool : SignedConstraint → ℤ
-usedPool r = round (r .cost *ℤ r .usage) million
+usedPool r = round (r .cost *ℤ r .usage) wholeFactor
 
 -- "unused = cost - used. Mode 2: all unused." 000, 2.4.3: TSFCAS × (1 - U)
 unfoldable pub unusedPool : SignedConstraint → ℤ
 unusedPool r = cond (eqb (r .mode) 2) (r .cost) (r .cost -ℤ usedPool r)
 
 -- "round(pool x factor / 1,000,000)", and "Residual pools are made the same way"
-abbrev pub byFactor : ℤ → ℤ → ℤ
-byFactor pool factor = round (pool *ℤ factor) million
+abbrev pub shareByFactor : ℤ → ℤ → ℤ
+shareByFactor pool factor = round (pool *ℤ factor) wholeFactor
 
 -- ---- a constraint's lines; own and total are the account's and all accounts' energies, by region
 
@@ -72,13 +72,13 @@ contingencyLine total own r =
 -- "Unit lines: round(pool x factor / 1,000,000); FPP by CF, used by min(0, CF), unused by DCF."
 -- 000, 4: TA = CF × P_regulation / 12 × RCR. 000, 2.4.3: TA = TSFCAS × U × NCF, with 002's NCF = Min(0, CF); TA = TSFCAS × (1 - U) × DCF
 abbrev pub fppLine : SignedConstraint → SignedUnit → Line
-fppLine r q = lineOf r 3 (q .unit) (byFactor (fppPool r) (q .cf))
+fppLine r q = lineOf r 3 (q .unit) (shareByFactor (fppPool r) (q .cf))
 
 abbrev pub usedLine : SignedConstraint → SignedUnit → Line
-usedLine r q = lineOf r 4 (q .unit) (byFactor (usedPool r) (min0 (q .cf)))
+usedLine r q = lineOf r 4 (q .unit) (shareByFactor (usedPool r) (min0 (q .cf)))
 
 abbrev pub unusedLine : SignedConstraint → SignedUnit → Line
-unusedLine r q = lineOf r 5 (q .unit) (byFactor (unusedPool r) (q .dcf))
+unusedLine r q = lineOf r 5 (q .unit) (shareByFactor (unusedPool r) (q .dcf))
 
 -- "own units in row order (3, 4, 5; mode 2 only 5)"
 unfoldable pub unitLines : SignedConstraint → SignedUnit → List Line
@@ -89,7 +89,7 @@ unitLines r q = cond (eqb (r .mode) 1) (fppLine r q ∷ usedLine r q ∷ unusedL
 -- TA = TSFCAS × (1 - U) × DRCF × TE / ATE
 module _ (total own : ℕ → Energies) (r : SignedConstraint) where
   unfoldable pub restLine : ℕ → ℤ → ℤ → Line
-  restLine part pool factor = lineOf r part 0 (round (byFactor pool factor *ℤ over r (λ g. own g .residual)) (over r (λ g. total g .residual)))
+  restLine part pool factor = lineOf r part 0 (round (shareByFactor pool factor *ℤ over r (λ g. own g .residual)) (over r (λ g. total g .residual)))
 
   -- "then 6, 7, 8 (mode 2 only 8)"
   unfoldable pub restLines : List Line
@@ -112,7 +112,7 @@ constraintLines S account r =
 
 -- "r = round(payment x factor / 1,000,000)." 000, 3.5: SRP × RBF
 unfoldable pub regionPart : SignedContract → ℕ → ℤ
-regionPart k g = byFactor (k .payment) (pos (k .factor g))
+regionPart k g = shareByFactor (k .payment) (pos (k .factor g))
 
 -- "The consumed half is r / 2, an odd r rounded up; the sent-out half is the rest." 000, 3.5: SRP × 0.5 × RBF
 unfoldable pub consumedHalf : ℤ → ℤ

@@ -2,6 +2,7 @@
 use Prim.Native.Nat.{ℕ, zero, suc}
 use lib.IntN.{ℤ, pos, negsuc, negℤ, _+ℤ_}
 use Rattle.ground.specs.Round.{roundZ}
+use Rattle.ground.specs.Units.{million}
 
 -- x 0 + x 1 + .. + x (n - 1)
 unfoldable pub sum : (ℕ → ℤ) → ℕ → ℤ
@@ -20,5 +21,5 @@ min0 (pos n) = pos 0
 min0 (negsuc n) = negsuc n
 
 -- "factors and usage in millionths"
-abbrev pub million : ℤ
-million = pos 1000000
+abbrev pub wholeFactor : ℤ
+wholeFactor = pos million

@@ -4,12 +4,12 @@ use mathlib.Core.Path.{_≡_, ap, _∙_}
 use mathlib.Core.List.{List, [], _∷_, _++_}
 use lib.ListN.{length, length-append}
 use native.Mathlib.Omega.{arith}
-use Rattle.ground.specs.Put.{Wrote}
+use Rattle.ground.specs.Inner.Put.{Wrote}
 use Rattle.ground.proofs.Put.{put-more, put-length}
 use Rattle.statement.specs.Statement.{lineBytes, linesBytes}
 use Rattle.statement.specs.declared.Line.{Line}
 use Rattle.statement.proofs.Lines.{line-length, lines-length, lines-append, lines-one, wrote-no-line}
-use Rattle.lines.specs.Emitted.{Emitted, Room}
+use Rattle.lines.specs.Inner.Emitted.{Emitted, LineRoom}
 
 pub emitted-none : (l : List ℕ) (k : ℕ) → Emitted l k [] l k
 emitted-none l k = record { bytes = wrote-no-line l k .bytes; next = omega arith }
@@ -30,8 +30,8 @@ emitted-length {l} {b} {k} ls p = ap length (p .bytes) ∙ put-length l k (lines
 
 -- ---- room
 
-pub room-less : {l : List ℕ} {k : ℕ} (m n : ℕ) → m ≤ n → Room l k n → Room l k m
+pub room-less : {l : List ℕ} {k : ℕ} (m n : ℕ) → m ≤ n → LineRoom l k n → LineRoom l k m
 room-less m n h r = record { fits = omega (arith, r .fits) }
 
-pub room-rest : {l b : List ℕ} {k e : ℕ} (ls : List Line) (n : ℕ) → Room l k (length ls + n) → Emitted l k ls b e → Room b e n
+pub room-rest : {l b : List ℕ} {k e : ℕ} (ls : List Line) (n : ℕ) → LineRoom l k (length ls + n) → Emitted l k ls b e → LineRoom b e n
 room-rest ls n r p = record { fits = omega (arith, r .fits, p .next, emitted-length ls p) }

@@ -8,26 +8,27 @@ use native.Mathlib.Nat.{le-trans}
 use borrow.Author.Tests.{le-ltb}
 use lib.Dec.{eqb}
 use lib.IntN.{natAbs}
-use Rattle.ground.specs.Each.{Each}
+use Rattle.ground.specs.Inner.Each.{Each}
 use Rattle.ground.specs.Sign.{less}
 use Rattle.ground.proofs.Each.{each-choice}
 use Rattle.ground.proofs.Rounding.{round-share}
 use Rattle.ground.proofs.Sizes.{less-size}
-use Rattle.records.specs.Facts.{UnitRule}
+use Rattle.records.specs.Inner.Facts.{UnitRule}
 use Rattle.records.specs.declared.rows.Constraint.{Constraint}
 use Rattle.records.specs.declared.rows.UnitRow.{UnitRow}
 use Rattle.amounts.specs.Shares.{byFactor, byEnergy}
-use Rattle.amounts.specs.Bounds.{SmallPools, SmallResidual, SmallHalves}
+use Rattle.amounts.specs.Inner.Bounds.{SmallPools, SmallResidual, SmallHalves}
 use Rattle.amounts.specs.declared.pools.Pools.{Pools}
 use Rattle.amounts.specs.declared.pools.Residual.{Residual}
 use Rattle.amounts.specs.declared.pools.Halves.{Halves}
 use Rattle.statement.specs.declared.Line.{Line}
-use Rattle.lines.specs.Lines.{Shared, contingencyLine, unitLines, restLines, aceLine, asoeLine}
+use Rattle.lines.specs.Lines.{contingencyLine, unitLines, restLines, aceLine, asoeLine}
+use Rattle.lines.specs.Inner.Shared.{Shared}
 use Rattle.lines.specs.Limit.{anyOver}
 
 -- a line within the limit
 pub record Within (l : Line) : Type 0 where
-  pub small : natAbs (l .amount) ≤ 50000000000
+  pub small : natAbs (l .amount) ≤ 50_000_000_000
 
 pub none-over : (ls : List Line) → Each Within ls → anyOver ls ≡ false
 unfolding anyOver
@@ -36,21 +37,21 @@ none-over (l ∷ ls) h = rw (le-ltb _ _ (h .0 .small)) (none-over ls (h .1))
 
 -- ---- shares
 
-less-within : (a b : ℕ) → a ≤ 50000000000 → b ≤ 50000000000 → natAbs (less a b) ≤ 50000000000
-less-within a b h k = omega (arith, less-size a b 100000000000 (omega arith) (omega arith))
+less-within : (a b : ℕ) → a ≤ 50_000_000_000 → b ≤ 50_000_000_000 → natAbs (less a b) ≤ 50_000_000_000
+less-within a b h k = omega (arith, less-size a b 100_000_000_000 (omega arith) (omega arith))
 
-factor-within : (pool plus minus : ℕ) → pool ≤ 50000000000 → plus ≤ 1000000 → minus ≤ 1000000 → natAbs (byFactor pool plus minus) ≤ 50000000000
+factor-within : (pool above below : ℕ) → pool ≤ 50_000_000_000 → above ≤ 1_000_000 → below ≤ 1_000_000 → natAbs (byFactor pool above below) ≤ 50_000_000_000
 unfolding byFactor
-factor-within pool plus minus h p m = less-within _ _ (le-trans (round-share pool plus 1000000 p) h) (le-trans (round-share pool minus 1000000 m) h)
+factor-within pool above below h p m = less-within _ _ (le-trans (round-share pool above 1_000_000 p) h) (le-trans (round-share pool below 1_000_000 m) h)
 
-energy-within : (credit charge : ℕ) {own total : ℕ} → credit ≤ 50000000000 → charge ≤ 50000000000 → Shared own total → natAbs (byEnergy credit charge own total) ≤ 50000000000
+energy-within : (credit charge : ℕ) {own total : ℕ} → credit ≤ 50_000_000_000 → charge ≤ 50_000_000_000 → Shared own total → natAbs (byEnergy credit charge own total) ≤ 50_000_000_000
 unfolding byEnergy
 energy-within credit charge {own} {total} h k s =
     less-within _ _ (le-trans (round-share credit own total (s .part)) h) (le-trans (round-share charge own total (s .part)) k)
 
 -- ---- lines
 
-pub contingency-within : (r : Constraint) {own total : ℕ} → r .cost ≤ 50000000000 → Shared own total → Within (contingencyLine r own total)
+pub contingency-within : (r : Constraint) {own total : ℕ} → r .cost ≤ 50_000_000_000 → Shared own total → Within (contingencyLine r own total)
 contingency-within r h s = record { small = energy-within 0 (r .cost) (omega arith) h s }
 
 pub unit-within : (r : Constraint) (p : Pools) (q : UnitRow) → SmallPools p → UnitRule q → Each Within (unitLines r p q)
@@ -58,7 +59,7 @@ unfolding unitLines
 unit-within r p q h u =
     let unused : Within _ = record { small = factor-within (p .unused) 0 (q .dcf) (h .unused) (omega arith) (u .dcf) } in
     each-choice Within (eqb (r .mode) 1) _ _
-    (record { small = factor-within (p .fpp) (q .plus) (q .minus) (h .fpp) (u .plus) (u .minus) }, (record { small = factor-within (p .used) 0 (q .minus) (h .used) (omega arith) (u .minus) }, (unused, tt)))
+    (record { small = factor-within (p .fpp) (q .pcf) (q .ncf) (h .fpp) (u .pcf) (u .ncf) }, (record { small = factor-within (p .used) 0 (q .ncf) (h .used) (omega arith) (u .ncf) }, (unused, tt)))
     (unused, tt)
 
 pub rest-within : (r : Constraint) (x : Residual) {own total : ℕ} → SmallResidual x → Shared own total → Each Within (restLines r x own total)

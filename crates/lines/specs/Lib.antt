@@ -1,3 +1,3 @@
 pub mod Lines
-pub mod Emitted
 pub mod Limit
+pub mod Inner

@@ -1,7 +1,7 @@
 -- Each line of a statement. 01, The statement: "Parts: 1 contingency by ACE, 2 by ASOE; unit lines 3 FPP, 4 used, 5 unused; residual lines
 -- 6 FPP, 7 used, 8 unused; 9 contract by ACE, 10 by ASOE." "Regions is the constraint's mask, or for 9 and 10 the one region's bit. Unit is
 -- 0 except in parts 3 to 5."
-use Prim.Native.Nat.{ℕ, _^_, _≤_, _<_}
+use Prim.Native.Nat.{ℕ, _^_}
 use mathlib.Core.Bool.{cond}
 use mathlib.Core.List.{List, [], _∷_}
 use lib.Dec.{eqb}
@@ -18,21 +18,15 @@ use Rattle.amounts.specs.declared.pools.Residual.{Residual}
 use Rattle.amounts.specs.declared.pools.Halves.{Halves}
 use Rattle.statement.specs.declared.Line.{Line}
 
--- what sharing by energy rests on: an account's own energy is part of a total that is not 0
-pub record Shared (own total : ℕ) : Type 0 where
-  pub part : own ≤ total
-  pub above : 0 < total
-  pub below : total ≤ 100000000
-
 -- a line that is shared by energy, of a pool that is credit - charge
 abbrev pub sharedLine : ℕ → ℕ → ℕ → ℕ → ℕ → ℕ → ℕ → Line
 sharedLine id part regions credit charge own total =
     record { id = id; part = part; regions = regions; unit = 0; amount = byEnergy credit charge own total }
 
--- a unit's line, by a factor that is plus - minus
+-- a unit's line, by a factor that is above - below, of which one is 0
 abbrev pub unitLine : Constraint → ℕ → ℕ → UnitRow → ℕ → ℕ → Line
-unitLine r part pool q plus minus =
-    record { id = r .id; part = part; regions = r .mask; unit = q .unit; amount = byFactor pool plus minus }
+unitLine r part pool q above below =
+    record { id = r .id; part = part; regions = r .mask; unit = q .unit; amount = byFactor pool above below }
 
 -- "Contingency: -round(cost x own / total), ASOE for raise, ACE for lower"
 abbrev pub contingencyPart : Constraint → ℕ
@@ -43,10 +37,10 @@ contingencyLine r own total = sharedLine (r .id) (contingencyPart r) (r .mask) 0
 
 -- "Unit lines: round(pool x factor / 1,000,000); FPP by CF, used by min(0, CF), unused by DCF."
 abbrev pub fppLine : Constraint → Pools → UnitRow → Line
-fppLine r p q = unitLine r 3 (p .fpp) q (q .plus) (q .minus)
+fppLine r p q = unitLine r 3 (p .fpp) q (q .pcf) (q .ncf)
 
 abbrev pub usedLine : Constraint → Pools → UnitRow → Line
-usedLine r p q = unitLine r 4 (p .used) q 0 (q .minus)
+usedLine r p q = unitLine r 4 (p .used) q 0 (q .ncf)
 
 abbrev pub unusedLine : Constraint → Pools → UnitRow → Line
 unusedLine r p q = unitLine r 5 (p .unused) q 0 (q .dcf)

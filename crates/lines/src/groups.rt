@@ -2,10 +2,11 @@
 // Each writer answers where its lines end.
 ghost use mathlib.Core.List.{[], _∷_};
 ghost use lib.ListN.{length};
-ghost use Rattle.records.specs.Facts.{UnitRule};
-ghost use Rattle.amounts.specs.Bounds.{SmallPools, SmallResidual};
-ghost use Rattle.lines.specs.Lines.{Shared, unitLines, restLines};
-ghost use Rattle.lines.specs.Emitted.{Emitted, Room};
+ghost use Rattle.records.specs.Inner.Facts.{UnitRule};
+ghost use Rattle.amounts.specs.Inner.Bounds.{SmallPools, SmallResidual};
+ghost use Rattle.lines.specs.Lines.{unitLines, restLines};
+ghost use Rattle.lines.specs.Inner.Shared.{Shared};
+ghost use Rattle.lines.specs.Inner.Emitted.{Emitted, LineRoom};
 use crate::make;
 use amounts::pools::Pools;
 use amounts::pools::Residual;
@@ -15,7 +16,7 @@ use records::rows::UnitRow;
 use statement::Line;
 
 pub fn emit_two(buf: &mut [u8], place: usize, first: Line, second: Line) -> usize
-    requires { ⌜ Room (now buf) place 2 ⌝ }
+    requires { ⌜ LineRoom (now buf) place 2 ⌝ }
     ensures { λ e. ⌜ Emitted (now (buf .entry)) place (first ∷ second ∷ []) (now (buf .exit)) e ⌝ }
 {
     let next = statement::put_line(buf, place, first);
@@ -23,7 +24,7 @@ pub fn emit_two(buf: &mut [u8], place: usize, first: Line, second: Line) -> usiz
 }
 
 fn emit_three(buf: &mut [u8], place: usize, first: Line, second: Line, third: Line) -> usize
-    requires { ⌜ Room (now buf) place 3 ⌝ }
+    requires { ⌜ LineRoom (now buf) place 3 ⌝ }
     ensures { λ e. ⌜ Emitted (now (buf .entry)) place (first ∷ second ∷ third ∷ []) (now (buf .exit)) e ⌝ }
 {
     let next = statement::put_line(buf, place, first);
@@ -32,7 +33,7 @@ fn emit_three(buf: &mut [u8], place: usize, first: Line, second: Line, third: Li
 
 // In mode 2 a unit has its unused line alone.
 pub fn emit_unit(buf: &mut [u8], place: usize, r: Constraint, p: Pools, q: UnitRow) -> usize
-    requires { ⌜ Room (now buf) place (length (unitLines r p q)) ⌝ }
+    requires { ⌜ LineRoom (now buf) place (length (unitLines r p q)) ⌝ }
     requires { ⌜ SmallPools p ⌝ }
     requires { ⌜ UnitRule q ⌝ }
     ensures { λ e. ⌜ Emitted (now (buf .entry)) place (unitLines r p q) (now (buf .exit)) e ⌝ }
@@ -55,7 +56,7 @@ pub fn emit_rest(
     own: u64,
     total: u64,
 ) -> usize
-    requires { ⌜ Room (now buf) place (length (restLines r x own total)) ⌝ }
+    requires { ⌜ LineRoom (now buf) place (length (restLines r x own total)) ⌝ }
     requires { ⌜ SmallResidual x ⌝ }
     requires { ⌜ Shared own total ⌝ }
     ensures { λ e. ⌜ Emitted (now (buf .entry)) place (restLines r x own total) (now (buf .exit)) e ⌝ }

@@ -1,9 +1,11 @@
 // One line from the numbers that it rests on. 01's parts are numbered here and nowhere else.
 ghost use mathlib.Core.Path.{_≡_};
 ghost use Prim.Native.Nat.{_≤_, _<_};
-ghost use Rattle.records.specs.Facts.{ConstraintRule, UnitRule};
-ghost use Rattle.amounts.specs.Bounds.{SmallPools, SmallResidual, SmallHalves};
-ghost use Rattle.lines.specs.Lines.{Shared, contingencyPart, contingencyLine, sharedLine, fppLine, usedLine, unusedLine, fppRest, usedRest, unusedRest, aceLine, asoeLine};
+ghost use Rattle.ground.specs.Units.{moneyLimit};
+ghost use Rattle.records.specs.Inner.Facts.{ConstraintRule, UnitRule};
+ghost use Rattle.amounts.specs.Inner.Bounds.{SmallPools, SmallResidual, SmallHalves};
+ghost use Rattle.lines.specs.Lines.{contingencyPart, contingencyLine, sharedLine, fppLine, usedLine, unusedLine, fppRest, usedRest, unusedRest, aceLine, asoeLine};
+ghost use Rattle.lines.specs.Inner.Shared.{Shared};
 use amounts::pools::Halves;
 use amounts::pools::Pools;
 use amounts::pools::Residual;
@@ -50,7 +52,7 @@ pub fn fpp_line(r: Constraint, p: Pools, q: UnitRow) -> Line
         part: 3,
         regions: r.mask,
         unit: q.unit,
-        amount: shares::by_factor(p.fpp, q.plus, q.minus),
+        amount: shares::by_factor(p.fpp, q.pcf, q.ncf),
     }
 }
 
@@ -64,7 +66,7 @@ pub fn used_line(r: Constraint, p: Pools, q: UnitRow) -> Line
         part: 4,
         regions: r.mask,
         unit: q.unit,
-        amount: shares::by_factor(p.used, 0, q.minus),
+        amount: shares::by_factor(p.used, 0, q.ncf),
     }
 }
 
@@ -92,7 +94,7 @@ fn shared_line(
     own: u64,
     total: u64,
 ) -> Line
-    requires { ⌜ (credit ≤ 50000000000) × (charge ≤ 50000000000) ⌝ }
+    requires { ⌜ (credit ≤ moneyLimit) × (charge ≤ moneyLimit) ⌝ }
     requires { ⌜ Shared own total ⌝ }
     ensures { λ l. ⌜ l ≡ sharedLine id part regions credit charge own total ⌝ }
 {

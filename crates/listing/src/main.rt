@@ -6,10 +6,10 @@ ghost use mathlib.Core.Path.{_≡_};
 ghost use lib.ListN.{length};
 
 // Room for the longest text: a header of 72 bytes, and 2,152 lines of 53.
-fn page() -> [u8; 114128]
-    ensures { λ r. ⌜ 114128 ≡ length r ⌝ }
+fn page() -> [u8; 114_128]
+    ensures { λ r. ⌜ 114_128 ≡ length r ⌝ }
 {
-    [0; 114128]
+    [0; 114_128]
 }
 
 // The input's buffer is longer than an account and any book (39,796 bytes). Of longer input the part that fits is refused by 2, 3 or 4, as

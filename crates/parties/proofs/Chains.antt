@@ -11,8 +11,8 @@ use lib.Dec.{eqb}
 use lib.ListN.{getD, set, replicate, length-set, length-replicate, getD-replicate}
 use lib.Seq.{getD-set-same, getD-set-other}
 use Rattle.sections.proofs.Search.{lt-or-ge}
-use Rattle.parties.specs.Chains.{markOf, Last, Chained}
-use Rattle.parties.specs.Once.{seen}
+use Rattle.parties.specs.Inner.Chains.{markOf, Last, Chained}
+use Rattle.parties.specs.Inner.Seen.{seen}
 use Rattle.parties.proofs.Once.{seen-each, seen-none}
 
 module _ (name : ℕ → ℕ) where

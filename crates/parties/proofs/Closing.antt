@@ -11,8 +11,9 @@ use Rattle.ground.proofs.Rounding.{half-above, half-below}
 use Rattle.records.specs.declared.rows.UnitRow.{UnitRow}
 use Rattle.records.specs.declared.rows.EnergyRow.{EnergyRow}
 use Rattle.accounts.specs.Rows.{sumOf}
-use Rattle.parties.specs.Within.{Within}
-use Rattle.parties.specs.Parties.{accountsIn, ownIn, shareIn, Shareable}
+use Rattle.parties.specs.Inner.Within.{HalvesApart}
+use Rattle.parties.specs.Parties.{accountsIn}
+use Rattle.parties.specs.Inner.Shares.{ownInPart, shareIn, Shareable}
 use Rattle.parties.specs.declared.shares.Part.{Part}
 use Rattle.parties.proofs.Everyone.{own-sum}
 
@@ -43,7 +44,7 @@ module _ {A : Type 0} (g : A → ℕ) (p t : ℕ) (h : 0 < t) where
       record { up = omega arith; down = omega arith }
 
   -- where the parts make the whole, the shares make the pool, at most half a unit away for each
-  closing : (l : List A) → sumOf g l ≡ t → Within (length l) p (sumOf (λ a. roundN (p * g a) t) l)
+  closing : (l : List A) → sumOf g l ≡ t → HalvesApart (length l) p (sumOf (λ a. roundN (p * g a) t) l)
   unfolding shares
   closing l e =
       let k = close l in
@@ -54,7 +55,7 @@ module _ {A : Type 0} (g : A → ℕ) (p t : ℕ) (h : 0 < t) where
 -- ---- a part of a pool, over all accounts
 
 -- at most half a unit of money for each account's line
-pub part-closing : (p : Part) (energy : ℕ → EnergyRow) (n : ℕ) (unit : ℕ → UnitRow) (m : ℕ) → Shareable p energy n → Within (length (accountsIn energy n unit m)) (p .amount) (sumOf (shareIn p energy n) (accountsIn energy n unit m))
+pub part-closing : (p : Part) (energy : ℕ → EnergyRow) (n : ℕ) (unit : ℕ → UnitRow) (m : ℕ) → Shareable p energy n → HalvesApart (length (accountsIn energy n unit m)) (p .amount) (sumOf (shareIn p energy n) (accountsIn energy n unit m))
 unfolding shareIn
 part-closing p energy n unit m h =
-    closing (ownIn p energy n) (p .amount) (p .whole) (h .above) (accountsIn energy n unit m) (own-sum p energy n unit m ∙ sym (h .whole))
+    closing (ownInPart p energy n) (p .amount) (p .whole) (h .above) (accountsIn energy n unit m) (own-sum p energy n unit m ∙ sym (h .whole))

@@ -9,11 +9,13 @@ use borrow.Author.Tests.{eqb-true, eqb-false}
 use lib.Dec.{eqb}
 use lib.ListN.{length}
 use Rattle.sections.specs.Search.{some}
-use Rattle.sections.specs.Order.{Keeps}
+use Rattle.sections.specs.Inner.Order.{Keeps}
 use Rattle.records.specs.declared.rows.UnitRow.{UnitRow}
 use Rattle.records.specs.declared.rows.EnergyRow.{EnergyRow}
-use Rattle.parties.specs.Once.{has, named, seen, newly}
-use Rattle.parties.specs.Parties.{energyAccount, unitAccount, accountsIn, Sorted}
+use Rattle.parties.specs.Once.{has, named}
+use Rattle.parties.specs.Inner.Seen.{seen, newly}
+use Rattle.parties.specs.Parties.{energyAccount, unitAccount, accountsIn}
+use Rattle.parties.specs.Inner.Shares.{Sorted}
 use Rattle.parties.proofs.Once.{seen-each, seen-none, has-named, length-join, length-named, named-turned}
 use Rattle.parties.proofs.Everyone.{accounts-few}
 

@@ -18,8 +18,10 @@ use Rattle.book.specs.Book.{Book}
 use Rattle.accounts.specs.Rows.{sumOf, none}
 use Rattle.accounts.specs.Account.{rowsOfAccount, unknown}
 use Rattle.accounts.proofs.Lists.{some-rows}
-use Rattle.parties.specs.Once.{has, named, seen, times}
-use Rattle.parties.specs.Parties.{energyAccount, unitAccount, accountsIn, energyIn, ownIn, shareIn, partSum}
+use Rattle.parties.specs.Once.{has, named, times}
+use Rattle.parties.specs.Inner.Seen.{seen}
+use Rattle.parties.specs.Parties.{energyAccount, unitAccount, accountsIn}
+use Rattle.parties.specs.Inner.Shares.{energyIn, ownInPart, shareIn, partSum}
 use Rattle.parties.specs.declared.shares.Part.{Part}
 use Rattle.parties.proofs.Once.{seen-each, unseen-each, has-named, unseen, once-named, once-none, length-named, sum-each, sum-named}
 
@@ -81,8 +83,8 @@ share-choice amount whole false own = sym (share-nothing amount whole refl)
 
 module _ (p : Part) (energy : ℕ → EnergyRow) (n : ℕ) where
   -- who is in no energy row has no energy
-  pub own-none : (a : ℕ) → seen (energyAccount energy) n a ≡ false → ownIn p energy n a ≡ 0
-  unfolding ownIn
+  pub own-none : (a : ℕ) → seen (energyAccount energy) n a ≡ false → ownInPart p energy n a ≡ 0
+  unfolding ownInPart
   own-none a e = sym (total-zero _ n (λ k l. rw (unseen-each (energyAccount energy) n a e k l)))
 
   -- and a share of 0
@@ -97,6 +99,6 @@ module _ (p : Part) (energy : ℕ → EnergyRow) (n : ℕ) where
     part-everyone h = sym (sum-named (shareIn p energy n) (unitAccount unit) m _ (λ a e. share-none a (unseen (energyAccount energy) n a e)))
 
     -- the accounts' own energy makes the whole
-    pub own-sum : sumOf (ownIn p energy n) (accountsIn energy n unit m) ≡ total (λ i. energyIn p (energy i)) n
-    unfolding ownIn
+    pub own-sum : sumOf (ownInPart p energy n) (accountsIn energy n unit m) ≡ total (λ i. energyIn p (energy i)) n
+    unfolding ownInPart
     own-sum = each-once energy n unit m (λ i. energyIn p (energy i))

@@ -11,17 +11,19 @@ use mir.Val.{boolByte}
 use Rattle.ground.specs.Round.{roundN}
 use Rattle.ground.proofs.Rounding.{round-share}
 use Rattle.sections.specs.Total.{total, keyed}
-use Rattle.sections.specs.Walk.{Stands, Past}
+use Rattle.sections.specs.Inner.Walk.{Stands, Past}
 use Rattle.sections.proofs.Total.{total-bound, total-under, keyed-le}
 use Rattle.sections.proofs.Search.{lt-or-ge}
 use Rattle.sections.proofs.Walk.{Run, run-start, run-next, run-stop, run-done, sum-start, sum-more, sum-past}
 use Rattle.market.specs.Kinds.{bitSet}
-use Rattle.records.specs.Facts.{EnergyRule}
+use Rattle.records.specs.Inner.Facts.{EnergyRule}
 use Rattle.records.specs.declared.rows.EnergyRow.{EnergyRow}
 use Rattle.accounts.specs.Rows.{sumOf}
-use Rattle.parties.specs.Once.{has, joinNew, named, seen}
-use Rattle.parties.specs.Parties.{energyAccount, byBasis, energyIn, ownIn, shareIn, partSum, Sorted, Shareable}
-use Rattle.parties.specs.Groups.{GroupIs}
+use Rattle.parties.specs.Once.{has, joinNew, named}
+use Rattle.parties.specs.Inner.Seen.{seen}
+use Rattle.parties.specs.Parties.{energyAccount}
+use Rattle.parties.specs.Inner.Shares.{byBasis, energyIn, ownInPart, shareIn, partSum, Sorted, Shareable}
+use Rattle.parties.specs.Inner.Groups.{GroupIs}
 use Rattle.parties.specs.declared.shares.Basis.{Basis}
 use Rattle.parties.specs.declared.shares.Basis.the-variants.{Ace, Asoe, Residual}
 use Rattle.parties.specs.declared.shares.Group.{Group}
@@ -33,11 +35,11 @@ use Rattle.parties.proofs.Counting.{in-order}
 -- ---- energy
 
 -- a row's energy of any kind
-pub energy-small : (p : Part) (r : EnergyRow) → EnergyRule r → energyIn p r ≤ 40000000
+pub energy-small : (p : Part) (r : EnergyRow) → EnergyRule r → energyIn p r ≤ 40_000_000
 unfolding energyIn byBasis
 energy-small p r h = by (bitSet (p .mask) (r .region)) (p .basis)
   where
-    by : (t : Bool) (b : Basis) → cond t (byBasis b r) 0 ≤ 40000000
+    by : (t : Bool) (b : Basis) → cond t (byBasis b r) 0 ≤ 40_000_000
     by true Ace = omega arith
     by true Asoe = omega arith
     by true Residual = omega arith
@@ -57,8 +59,8 @@ module _ (p : Part) (energy : ℕ → EnergyRow) (n : ℕ) where
   counted i = energyIn p (energy i)
 
   -- an account owns no more than the whole
-  pub own-small : Shareable p energy n → (a : ℕ) → ownIn p energy n a ≤ p .whole
-  unfolding ownIn keyed
+  pub own-small : Shareable p energy n → (a : ℕ) → ownInPart p energy n a ≤ p .whole
+  unfolding ownInPart keyed
   own-small h a =
       le-trans
       (total-under _ _ n (λ k l. keyed-le (energyAccount energy) a counted (counted k) k (le-refl (counted k))))
@@ -71,7 +73,7 @@ module _ (p : Part) (energy : ℕ → EnergyRow) (n : ℕ) where
   -- so that its share is no more than the amount
   pub share-small : Shareable p energy n → (a : ℕ) → shareIn p energy n a ≤ p .amount
   unfolding shareIn
-  share-small h a = round-share (p .amount) (ownIn p energy n a) (p .whole) (own-small h a)
+  share-small h a = round-share (p .amount) (ownInPart p energy n a) (p .whole) (own-small h a)
 
   -- ---- the rows of one account
 
@@ -95,18 +97,18 @@ module _ (p : Part) (energy : ℕ → EnergyRow) (n : ℕ) where
       record { first = g .first; run = run-next _ n a i (g .run) l w; sum = sum-more _ n a counted i (g .sum) w (d ∙ ap (energyIn p) e) }
 
   -- 1,024 rows of at most 40,000,000
-  pub gather-fits : {from a i own : ℕ} → Sorted energy n → Gathered from a i own → own ≤ 50000000000
+  pub gather-fits : {from a i own : ℕ} → Sorted energy n → Gathered from a i own → own ≤ 50_000_000_000
   gather-fits {from} {a} {i} {own} s g =
       let high = g .run .high in
       let few = s .few in
       rw (g .sum)
-      (omega (arith, total-bound (keyed (energyAccount energy) a counted) 40000000 i (λ k l. keyed-le (energyAccount energy) a counted 40000000 k (energy-small p (energy k) (s .rules k (omega arith))))))
+      (omega (arith, total-bound (keyed (energyAccount energy) a counted) 40_000_000 i (λ k l. keyed-le (energyAccount energy) a counted 40_000_000 k (energy-small p (energy k) (s .rules k (omega arith))))))
 
   -- no row of the account is left
   whole : {from a i own : ℕ} → Gathered from a i own → Past (energyAccount energy) n a i → GroupIs p energy n from (record { own = own; end = i })
-  unfolding ownIn keyed
+  unfolding ownInPart keyed
   whole {from} {a} {i} {own} g b =
-      record { own = sum-past (energyAccount energy) n a counted i (g .sum) b ∙ ap (ownIn p energy n) (g .first); behind = rw (g .first) at b }
+      record { own = sum-past (energyAccount energy) n a counted i (g .sum) b ∙ ap (ownInPart p energy n) (g .first); behind = rw (g .first) at b }
 
   -- r is row i, of another account
   pub gather-stop : {from a i own : ℕ} {r : EnergyRow} → Sorted energy n → Gathered from a i own → i < n → r ≡ energy i → (r .account ≡ a → ⊥) → GroupIs p energy n from (record { own = own; end = i })
@@ -178,7 +180,7 @@ module _ (p : Part) (energy : ℕ → EnergyRow) (n : ℕ) where
       (sum-bound (shareIn p energy n) (p .amount) (named (energyAccount energy) i []) (share-small p energy n h))
       (mul-le-mul (omega (arith, length-named (energyAccount energy) i [])) (le-refl (p .amount)))
 
-  pub pass-small : {i x : ℕ} → Sorted energy n → Shareable p energy n → Passed i x → x ≤ 51200000000000
+  pub pass-small : {i x : ℕ} → Sorted energy n → Shareable p energy n → Passed i x → x ≤ 51_200_000_000_000
   pass-small {i} {x} s h g = rw (g .sum) (omega (arith, few-shares s h i (g .within), h .small))
 
   -- shares of nothing

@@ -13,7 +13,8 @@ use Rattle.sections.specs.Total.{total}
 use Rattle.sections.specs.Search.{some}
 use Rattle.sections.proofs.Search.{some-none}
 use Rattle.accounts.specs.Rows.{sumOf}
-use Rattle.parties.specs.Once.{has, joinNew, named, seen, times, newly}
+use Rattle.parties.specs.Once.{has, joinNew, named, times}
+use Rattle.parties.specs.Inner.Seen.{seen, newly}
 use Rattle.parties.proofs.Sums.{sum-plus, sum-none}
 
 -- ---- names seen

@@ -14,7 +14,8 @@ use Rattle.sections.proofs.Total.{total-zero, total-same}
 use Rattle.market.specs.Kinds.{bitSet}
 use Rattle.records.specs.declared.rows.EnergyRow.{EnergyRow}
 use Rattle.parties.specs.Once.{has, named}
-use Rattle.parties.specs.Parties.{energyAccount, byBasis, energyIn, ownIn, shareIn, partSum, Sorted}
+use Rattle.parties.specs.Parties.{energyAccount}
+use Rattle.parties.specs.Inner.Shares.{byBasis, energyIn, ownInPart, shareIn, partSum, Sorted}
 use Rattle.parties.specs.declared.shares.Part.{Part}
 use Rattle.parties.proofs.Sums.{sum-same}
 use Rattle.parties.proofs.Once.{seen-each, has-named, once-named, once-none, sum-each}
@@ -58,7 +59,7 @@ module _ (p : Part) (energy : ℕ → EnergyRow) (n g : ℕ) (s : Sorted energy 
 
   -- so an account's share is that of its rows
   share-rows : (a : ℕ) → shareIn p energy n a ≡ total (λ i. cond (eqb (energy i .account) a) (roundN (p .amount * energyIn p (energy i)) (p .whole)) 0) n
-  unfolding shareIn ownIn
+  unfolding shareIn ownInPart
   share-rows a =
       total-lone (λ x. roundN (p .amount * x) (p .whole)) (sym (share-nothing (p .amount) (p .whole) refl)) _ n (apart a)
       ∙ total-same _ _ n (λ i l. share-choice (p .amount) (p .whole) (eqb (energy i .account) a) (energyIn p (energy i)))

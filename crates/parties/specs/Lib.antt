@@ -1,5 +1,3 @@
 pub mod Once
 pub mod Parties
-pub mod Within
-pub mod Groups
-pub mod Chains
+pub mod Inner

@@ -3,7 +3,6 @@ use Prim.Native.Nat.{ℕ, zero, suc, _+_}
 use mathlib.Core.List.{List, [], _∷_}
 use mathlib.Core.Bool.{Bool, false, cond, _||_}
 use lib.Dec.{eqb}
-use Rattle.sections.specs.Search.{some}
 
 -- whether a stands in a list
 unfoldable pub has : ℕ → List ℕ → Bool
@@ -19,15 +18,7 @@ unfoldable pub named : (ℕ → ℕ) → ℕ → List ℕ → List ℕ
 named name zero l = l
 named name (suc n) l = joinNew (name n) (named name n l)
 
--- whether one of the records 0 .. n - 1 gives the name a
-unfoldable pub seen : (ℕ → ℕ) → ℕ → ℕ → Bool
-seen name n a = some (λ i. eqb (name i) a) n
-
 -- how often a stands in a list
 unfoldable pub times : ℕ → List ℕ → ℕ
 times a [] = 0
 times a (x ∷ l) = cond (eqb x a) 1 0 + times a l
-
--- what a record adds to the number of names: nothing where its name is known, else 1
-abbrev pub newly : Bool → ℕ
-newly known = cond known 0 1

@@ -6,9 +6,11 @@ ghost use mathlib.Core.List.{[]};
 ghost use Prim.Native.Nat.{_+_, _*_, _≤_, _<_};
 ghost use lib.ListN.{length, getD, set};
 ghost use Rattle.records.specs.Rows.{energyRow, unitRow};
-ghost use Rattle.parties.specs.Chains.{markOf, Chained};
-ghost use Rattle.parties.specs.Once.{has, named, seen, newly};
-ghost use Rattle.parties.specs.Parties.{energyAccount, unitAccount, accountsIn, Sorted};
+ghost use Rattle.parties.specs.Inner.Chains.{markOf, Chained};
+ghost use Rattle.parties.specs.Once.{has, named};
+ghost use Rattle.parties.specs.Inner.Seen.{seen, newly};
+ghost use Rattle.parties.specs.Parties.{energyAccount, unitAccount, accountsIn};
+ghost use Rattle.parties.specs.Inner.Shares.{Sorted};
 use ground::read;
 
 fn energy_account(energy: &[u8], i: usize) -> u32
@@ -29,7 +31,7 @@ fn unit_account(units: &[u8], u: usize) -> u32
 fn mark(a: u32) -> usize
     ensures { λ h. ⌜ (h ≡ markOf a) × (h < 1024) ⌝ }
 {
-    ((a as u64) * 2654435761 / 4194304 % 1024) as usize
+    ((a as u64) * 2_654_435_761 / 4_194_304 % 1024) as usize
 }
 
 // Unit row u put at the end of chain h.

@@ -3,11 +3,13 @@ ghost use mathlib.Core.Path.{_≡_};
 ghost use Prim.Native.Nat.{_*_, _≤_, _<_};
 ghost use lib.ListN.{length};
 ghost use Rattle.ground.specs.Round.{roundN};
-ghost use Rattle.sections.specs.Walk.{Stands};
-ghost use Rattle.records.specs.Facts.{EnergyRule};
+ghost use Rattle.ground.specs.Units.{moneyLimit, totalLimit};
+ghost use Rattle.sections.specs.Inner.Walk.{Stands};
+ghost use Rattle.records.specs.Inner.Facts.{EnergyRule};
 ghost use Rattle.records.specs.Rows.{energyRow};
-ghost use Rattle.parties.specs.Groups.{GroupIs};
-ghost use Rattle.parties.specs.Parties.{energyAccount, byBasis, energyIn, partSum, Sorted, Shareable};
+ghost use Rattle.parties.specs.Inner.Groups.{GroupIs};
+ghost use Rattle.parties.specs.Parties.{energyAccount};
+ghost use Rattle.parties.specs.Inner.Shares.{byBasis, energyIn, partSum, Sorted, Shareable};
 use market::Region;
 use records::rows;
 use records::rows::EnergyRow;
@@ -75,7 +77,7 @@ fn gather(energy: &[u8], n: usize, from: usize, p: Part) -> Group
 
 // The rounded share of what an account owns. One without energy in the part's regions owns nothing, and needs no division.
 fn share_of(p: Part, own: u64) -> u64
-    requires { ⌜ (p .amount ≤ 50000000000) × ((own ≤ p .whole) × ((0 < p .whole) × (p .whole ≤ 100000000))) ⌝ }
+    requires { ⌜ (p .amount ≤ moneyLimit) × ((own ≤ p .whole) × ((0 < p .whole) × (p .whole ≤ totalLimit))) ⌝ }
     ensures { λ x. ⌜ x ≡ roundN (p .amount * own) (p .whole) ⌝ }
 {
     if own == 0 {
@@ -89,7 +91,7 @@ pub fn part_sum(energy: &[u8], n: usize, p: Part) -> u64
     requires { ⌜ n * 24 ≤ length (now energy) ⌝ }
     requires { ⌜ Sorted (energyRow (now energy)) n ⌝ }
     requires { ⌜ Shareable p (energyRow (now energy)) n ⌝ }
-    ensures { λ x. ⌜ (x ≡ partSum p (energyRow (now (energy .entry))) n) × (x ≤ 51200000000000) ⌝ }
+    ensures { λ x. ⌜ (x ≡ partSum p (energyRow (now (energy .entry))) n) × (x ≤ 51_200_000_000_000) ⌝ }
 {
     // A pool of 0 needs no pass.
     if p.amount == 0 {

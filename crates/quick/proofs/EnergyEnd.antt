@@ -12,15 +12,15 @@ use Rattle.ground.proofs.Every.{every, all}
 use Rattle.sections.specs.Total.{keyed, totalOf}
 use Rattle.sections.proofs.First.{first-good}
 use Rattle.sections.proofs.Total.{keyed-hit, total-has}
-use Rattle.records.specs.Facts.{EntryRule}
+use Rattle.records.specs.Inner.Facts.{EntryRule}
 use Rattle.records.specs.declared.rows.Entry.{Entry}
 use Rattle.records.specs.declared.rows.EnergyRow.{EnergyRow}
-use Rattle.totals.specs.Sums.{regionOf, aceOf, asoeOf, entryIs, entryAt}
+use Rattle.totals.specs.Sums.{regionOf, aceOf, asoeOf, entryIs, entryHasSums}
 use Rattle.totals.specs.declared.entries.Totals.{Totals}
 use Rattle.totals.proofs.Said.{entry-of}
 use Rattle.totals.proofs.Turns.{entry-is-at, five}
-use Rattle.quick.specs.Holds.{energiesHold}
-use Rattle.quick.specs.Energies.{SummedIs}
+use Rattle.quick.specs.Inner.Holds.{energiesHold}
+use Rattle.quick.specs.Inner.Energies.{SummedIs}
 use Rattle.quick.proofs.Said.{same-answer, never-holds, no-yes, EnergiesHold, energies-say, energies-said}
 use Rattle.quick.proofs.EnergyRows.{fields-of, from-fields}
 use Rattle.quick.proofs.EnergyTurns.{RowKeeps, keeps-says, keeps-said}
@@ -45,7 +45,7 @@ module _ (energy : ℕ → EnergyRow) (n : ℕ) (entry : ℕ → Entry) where
     kept i l = keeps-says energy i (s .each i (omega arith))
 
     -- the rows hold but for a limit, which the entries of their regions give
-    holds : ((g : ℕ) → g < 5 → entryAt energy n entry g ≡ true) → EnergiesHold energy n entry
+    holds : ((g : ℕ) → g < 5 → entryHasSums energy n entry g ≡ true) → EnergiesHold energy n entry
     holds h =
         record {
           fields = λ i l. let r = kept i l .fields in
@@ -59,7 +59,7 @@ module _ (energy : ℕ → EnergyRow) (n : ℕ) (entry : ℕ → Entry) where
           sums = h;
         }
 
-    entry-at : (g : ℕ) {b : Bool} → g < 5 → b ≡ entryIs (entry g) (getD (t .ace) g 0) (getD (t .asoe) g 0) (getD (t .residual) g 0) → b ≡ entryAt energy n entry g
+    entry-at : (g : ℕ) {b : Bool} → g < 5 → b ≡ entryIs (entry g) (getD (t .ace) g 0) (getD (t .asoe) g 0) (getD (t .residual) g 0) → b ≡ entryHasSums energy n entry g
     entry-at g l e = entry-is-at energy n entry g (rw q at (s .sums)) l refl e
 
     -- all rows were summed: the answer is what the tests of the five entries say joined
@@ -72,6 +72,6 @@ module _ (energy : ℕ → EnergyRow) (n : ℕ) (entry : ℕ → Entry) where
         let p₄ = entry-at 4 (omega arith) e₄ in
         same-answer _ _
         (λ z. let k = every (b₀ ∷ b₁ ∷ b₂ ∷ b₃ ∷ b₄ ∷ []) z in
-        energies-said energy n entry (holds (five (λ g. entryAt energy n entry g ≡ true) (sym p₀ ∙ k .0) (sym p₁ ∙ k .1 .0) (sym p₂ ∙ k .1 .1 .0) (sym p₃ ∙ k .1 .1 .1 .0) (sym p₄ ∙ k .1 .1 .1 .1 .0))))
+        energies-said energy n entry (holds (five (λ g. entryHasSums energy n entry g ≡ true) (sym p₀ ∙ k .0) (sym p₁ ∙ k .1 .0) (sym p₂ ∙ k .1 .1 .0) (sym p₃ ∙ k .1 .1 .1 .0) (sym p₄ ∙ k .1 .1 .1 .1 .0))))
         (λ z. let k = energies-say energy n entry z .sums in
         all (b₀ ∷ b₁ ∷ b₂ ∷ b₃ ∷ b₄ ∷ []) (p₀ ∙ k 0 (omega arith), (p₁ ∙ k 1 (omega arith), (p₂ ∙ k 2 (omega arith), (p₃ ∙ k 3 (omega arith), (p₄ ∙ k 4 (omega arith), tt))))))

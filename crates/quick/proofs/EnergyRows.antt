@@ -19,7 +19,7 @@ use Rattle.records.specs.declared.rows.Entry.{Entry}
 use Rattle.records.specs.declared.rows.EnergyRow.{EnergyRow}
 use Rattle.totals.specs.Sums.{entryIs}
 use Rattle.totals.specs.declared.entries.Totals.{Totals}
-use Rattle.quick.specs.Energies.{keyOf, rowHolds}
+use Rattle.quick.specs.Inner.Energies.{accountRegion, rowHolds}
 use Rattle.quick.proofs.Said.{same-answer}
 
 -- the four bytes from a row's region on are its region and its reserved bytes
@@ -35,7 +35,7 @@ head-is s i {h} e =
 -- ---- a row by itself
 
 pub record RowHolds (before : ℕ) (r : EnergyRow) : Type 0 where
-  pub above : before < keyOf r
+  pub above : before < accountRegion r
   pub region : r .region ≤ 4
   pub spare : r .spare ≡ 0
   pub race : r .race ≤ r .ace
@@ -43,7 +43,7 @@ pub record RowHolds (before : ℕ) (r : EnergyRow) : Type 0 where
 
 abbrev row-tests : ℕ → EnergyRow → List Bool
 row-tests before r =
-    ltb before (keyOf r)
+    ltb before (accountRegion r)
     ∷ leb (r .region) 4
     ∷ eqb (r .spare) 0
     ∷ leb (r .race) (r .ace)
@@ -54,7 +54,7 @@ pub row-says : (before : ℕ) (r : EnergyRow) → rowHolds before r ≡ true →
 row-says before r e =
     let h = every (row-tests before r) e in
     record {
-      above = ltb-true before (keyOf r) (h .0);
+      above = ltb-true before (accountRegion r) (h .0);
       region = leb-true (r .region) 4 (h .1 .0);
       spare = eqb-true (r .spare) 0 (h .1 .1 .0);
       race = leb-true (r .race) (r .ace) (h .1 .1 .1 .0);
@@ -64,10 +64,10 @@ row-says before r e =
 pub row-said : (before : ℕ) (r : EnergyRow) → RowHolds before r → rowHolds before r ≡ true
 row-said before r h =
     all (row-tests before r)
-    (lt-ltb before (keyOf r) (h .above), (le-leb (r .region) 4 (h .region), (eq-eqb (r .spare) 0 (h .spare), (le-leb (r .race) (r .ace) (h .race), (le-leb (r .rasoe) (r .asoe) (h .rasoe), tt)))))
+    (lt-ltb before (accountRegion r) (h .above), (le-leb (r .region) 4 (h .region), (eq-eqb (r .spare) 0 (h .spare), (le-leb (r .race) (r .ace) (h .race), (le-leb (r .rasoe) (r .asoe) (h .rasoe), tt)))))
 
 -- the tests by the four bytes from the region on: no reserved byte is above 0 where they make at most 4
-pub row-holds : (before head key : ℕ) (r : EnergyRow) → head ≡ r .region + 256 * r .spare → key ≡ r .account * 4294967296 + head → allOf (ltb before key ∷ leb head 4 ∷ leb (r .race) (r .ace) ∷ leb (r .rasoe) (r .asoe) ∷ []) ≡ rowHolds before r
+pub row-holds : (before head key : ℕ) (r : EnergyRow) → head ≡ r .region + 256 * r .spare → key ≡ r .account * 4_294_967_296 + head → allOf (ltb before key ∷ leb head 4 ∷ leb (r .race) (r .ace) ∷ leb (r .rasoe) (r .asoe) ∷ []) ≡ rowHolds before r
 row-holds before head key r e q = same-answer _ _ there back
   where
     there : allOf (ltb before key ∷ leb head 4 ∷ leb (r .race) (r .ace) ∷ leb (r .rasoe) (r .asoe) ∷ []) ≡ true → rowHolds before r ≡ true
@@ -93,14 +93,14 @@ row-holds before head key r e q = same-answer _ _ there back
         (lt-ltb before key (omega arith), (le-leb head 4 (omega arith), (le-leb (r .race) (r .ace) (h .race), (le-leb (r .rasoe) (r .asoe) (h .rasoe), tt))))
 
 -- such a row keeps check 5 exactly where its energies are within the limit
-pub fields-of : (r : EnergyRow) → RowHolds 4294967295 r → r .ace ≤ 20000000 → r .asoe ≤ 20000000 → energyOk r ≡ true
+pub fields-of : (r : EnergyRow) → RowHolds 4_294_967_295 r → r .ace ≤ 20_000_000 → r .asoe ≤ 20_000_000 → energyOk r ≡ true
 fields-of r h a b =
     let up = h .above in
     let low = h .region in
     all (energyTests r)
-    (le-leb 1 (r .account) (omega arith), (le-leb (r .region) 4 low, (eq-eqb (r .spare) 0 (h .spare), (le-leb (r .ace) 20000000 a, (le-leb (r .asoe) 20000000 b, (le-leb (r .race) (r .ace) (h .race), (le-leb (r .rasoe) (r .asoe) (h .rasoe), tt)))))))
+    (le-leb 1 (r .account) (omega arith), (le-leb (r .region) 4 low, (eq-eqb (r .spare) 0 (h .spare), (le-leb (r .ace) 20_000_000 a, (le-leb (r .asoe) 20_000_000 b, (le-leb (r .race) (r .ace) (h .race), (le-leb (r .rasoe) (r .asoe) (h .rasoe), tt)))))))
 
-pub from-fields : (r : EnergyRow) → energyOk r ≡ true → RowHolds 4294967295 r
+pub from-fields : (r : EnergyRow) → energyOk r ≡ true → RowHolds 4_294_967_295 r
 from-fields r e =
     let h = every (energyTests r) e in
     let account = leb-true 1 (r .account) (h .0) in
@@ -121,7 +121,7 @@ entry-holds t g q s = s ∙ ap (λ (e : Entry). entryIs e (getD (t .ace) g 0) (g
 -- ---- two rows
 
 -- where keys rise, pairs of account and region do
-pub pair-below : (a x b y : ℕ) → a * 4294967296 + x < b * 4294967296 + y → y ≤ 4 → pairBelow a x b y ≡ true
+pub pair-below : (a x b y : ℕ) → a * 4_294_967_296 + x < b * 4_294_967_296 + y → y ≤ 4 → pairBelow a x b y ≡ true
 pair-below a x b y l h =
     ⊎-elim
     (λ (p : a < b). rw (lt-ltb a b p) refl)
@@ -133,10 +133,10 @@ pair-below a x b y l h =
     either false = refl
 
 -- and back
-pub below-pair : (a x b y : ℕ) → pairBelow a x b y ≡ true → x ≤ 4 → a * 4294967296 + x < b * 4294967296 + y
+pub below-pair : (a x b y : ℕ) → pairBelow a x b y ≡ true → x ≤ 4 → a * 4_294_967_296 + x < b * 4_294_967_296 + y
 below-pair a x b y e h = by (ltb a b) refl e
   where
-    by : (t : Bool) → ltb a b ≡ t → (t || (eqb a b && ltb x y)) ≡ true → a * 4294967296 + x < b * 4294967296 + y
+    by : (t : Bool) → ltb a b ≡ t → (t || (eqb a b && ltb x y)) ≡ true → a * 4_294_967_296 + x < b * 4_294_967_296 + y
     by true q e = let l = ltb-true a b q in omega arith
     by false q e =
         let k = every (eqb a b ∷ ltb x y ∷ []) e in

@@ -12,16 +12,16 @@ use lib.ListN.{replicate}
 use lib.Seq.{ext-getD}
 use Rattle.ground.proofs.Every.{every, all}
 use Rattle.sections.specs.Order.{risesBy}
-use Rattle.sections.specs.Walk.{Split}
+use Rattle.sections.specs.Inner.Walk.{Split}
 use Rattle.sections.proofs.Order.{rises-first, rises-later, rises-step}
 use Rattle.sections.proofs.Search.{lt-or-ge}
 use Rattle.sections.proofs.Groups.{split-more, split-bound}
 use Rattle.records.specs.Rules.{energyBelow}
 use Rattle.records.specs.declared.rows.EnergyRow.{EnergyRow}
-use Rattle.totals.specs.Turns.{TotalsOf}
+use Rattle.totals.specs.Inner.Turns.{TotalsOf}
 use Rattle.totals.specs.declared.entries.Totals.{Totals}
 use Rattle.totals.proofs.Turns.{totals-none}
-use Rattle.quick.specs.Energies.{keyOf, rowHolds, rowKeeps, Room, Added, SummedIs}
+use Rattle.quick.specs.Inner.Energies.{accountRegion, rowHolds, rowKeeps, SumRoom, EnergyAdded, SummedIs}
 use Rattle.quick.proofs.Said.{same-answer, no-yes}
 use Rattle.quick.proofs.EnergyRows.{RowHolds, row-says, row-said, pair-below, below-pair}
 
@@ -43,34 +43,34 @@ split-once group f i {l} {x} h g =
 
 -- energies of 32 bits
 pub record Narrow (r : EnergyRow) : Type 0 where
-  pub ace : r .ace < 4294967296
-  pub asoe : r .asoe < 4294967296
+  pub ace : r .ace < 4_294_967_296
+  pub asoe : r .asoe < 4_294_967_296
 
 module _ (energy : ℕ → EnergyRow) where
   -- what it says that row i keeps its rules, and back
   pub record RowKeeps (i : ℕ) : Type 0 where
-    pub fields : RowHolds 4294967295 (energy i)
+    pub fields : RowHolds 4_294_967_295 (energy i)
     pub order : risesBy energyBelow energy i ≡ true
 
   pub keeps-says : (i : ℕ) → rowKeeps energy i ≡ true → RowKeeps i
   keeps-says i e =
-      let h = every (rowHolds 4294967295 (energy i) ∷ risesBy energyBelow energy i ∷ []) e in
-      record { fields = row-says 4294967295 (energy i) (h .0); order = h .1 .0 }
+      let h = every (rowHolds 4_294_967_295 (energy i) ∷ risesBy energyBelow energy i ∷ []) e in
+      record { fields = row-says 4_294_967_295 (energy i) (h .0); order = h .1 .0 }
 
   pub keeps-said : (i : ℕ) → RowKeeps i → rowKeeps energy i ≡ true
   keeps-said i h =
-      all (rowHolds 4294967295 (energy i) ∷ risesBy energyBelow energy i ∷ []) (row-said 4294967295 (energy i) (h .fields), (h .order, tt))
+      all (rowHolds 4_294_967_295 (energy i) ∷ risesBy energyBelow energy i ∷ []) (row-said 4_294_967_295 (energy i) (h .fields), (h .order, tt))
 
   -- the rows before i keep their rules, t has their sums, and the last one's key is `before`
   pub record Rows (i before : ℕ) (t : Totals) : Type 0 where
-    pub low : 4294967295 ≤ before
-    pub first : i ≡ 0 → before ≡ 4294967295
-    pub last : (i ≡ 0 → ⊥) → before ≡ keyOf (energy (i - 1))
+    pub low : 4_294_967_295 ≤ before
+    pub first : i ≡ 0 → before ≡ 4_294_967_295
+    pub last : (i ≡ 0 → ⊥) → before ≡ accountRegion (energy (i - 1))
     pub each : (j : ℕ) → j < i → rowKeeps energy j ≡ true
     pub narrow : (j : ℕ) → j < i → Narrow (energy j)
     pub sums : TotalsOf energy i t
 
-  pub rows-none : Rows 0 4294967295 (record { ace = replicate 5 0; asoe = replicate 5 0; residual = replicate 5 0 })
+  pub rows-none : Rows 0 4_294_967_295 (record { ace = replicate 5 0; asoe = replicate 5 0; residual = replicate 5 0 })
   rows-none =
       record {
         low = omega arith;
@@ -82,7 +82,7 @@ module _ (energy : ℕ → EnergyRow) where
       }
 
   -- the sums with row i
-  sums-more : (i : ℕ) {t x : Totals} {g : ℕ} {r : EnergyRow} → TotalsOf energy i t → r ≡ energy i → g ≡ r .region → g ≤ 4 → Added t g r x → TotalsOf energy (i + 1) x
+  sums-more : (i : ℕ) {t x : Totals} {g : ℕ} {r : EnergyRow} → TotalsOf energy i t → r ≡ energy i → g ≡ r .region → g ≤ 4 → EnergyAdded t g r x → TotalsOf energy (i + 1) x
   sums-more i h e q b p =
       let g = q ∙ ap (λ (r : EnergyRow). r .region) e in
       record {
@@ -98,7 +98,7 @@ module _ (energy : ℕ → EnergyRow) where
       there : rowHolds before (energy i) ≡ true → rowKeeps energy i ≡ true
       there e =
           let h = row-says before (energy i) e in
-          keeps-said i (record { fields = after 4294967295 before (s .low) h; order = rises-at h })
+          keeps-said i (record { fields = after 4_294_967_295 before (s .low) h; order = rises-at h })
         where
           rises-at : RowHolds before (energy i) → risesBy energyBelow energy i ≡ true
           rises-at h =
@@ -115,13 +115,13 @@ module _ (energy : ℕ → EnergyRow) where
           let f = h .fields in
           row-said before (energy i) (record { above = over h; region = f .region; spare = f .spare; race = f .race; rasoe = f .rasoe })
         where
-          step : (k : ℕ) → i ≡ k + 1 → risesBy energyBelow energy i ≡ true → keyOf (energy k) < keyOf (energy i)
+          step : (k : ℕ) → i ≡ k + 1 → risesBy energyBelow energy i ≡ true → accountRegion (energy k) < accountRegion (energy i)
           step k q o =
               let up : suc k ≡ i = omega arith in
               let p = rises-step energyBelow energy k (rw (← up) at o) in
               rw (← up) (below-pair (energy k .account) (energy k .region) (energy (suc k) .account) (energy (suc k) .region) p (keeps-says k (s .each k (omega arith)) .fields .region))
 
-          over : RowKeeps i → before < keyOf (energy i)
+          over : RowKeeps i → before < accountRegion (energy i)
           over h =
               ⊎-elim
               (λ (e : i ≡ 0). rw (s .first e) (h .fields .above))
@@ -145,7 +145,7 @@ module _ (energy : ℕ → EnergyRow) where
       held = row-says before r (sym q ∙ not-false b f)
 
       -- it passed: x are the sums with it
-      pub rows-more : {key : ℕ} {x : Totals} → r .ace < 4294967296 → r .asoe < 4294967296 → Added t head r x → key ≡ r .account * 4294967296 + head → Rows (i + 1) key x
+      pub rows-more : {key : ℕ} {x : Totals} → r .ace < 4_294_967_296 → r .asoe < 4_294_967_296 → EnergyAdded t head r x → key ≡ r .account * 4_294_967_296 + head → Rows (i + 1) key x
       rows-more {key} {x} a c p k =
           let g : head ≡ r .region = omega (arith, held .spare) in
           let up = held .above in
@@ -164,15 +164,15 @@ module _ (energy : ℕ → EnergyRow) where
           narrowed = record { ace = a; asoe = c }
 
       -- and there is room for it: the sums of at most 1,024 rows are small
-      pub rows-room : (n : ℕ) → n ≤ 1024 → i < n → (head < 5) × Room t head
+      pub rows-room : (n : ℕ) → n ≤ 1024 → i < n → (head < 5) × SumRoom t head
       rows-room n few l =
           let in-reach : head < 5 = omega (arith, held .spare, held .region) in
           let sums = s .sums in (
             in-reach,
             record {
-              ace = omega (arith, split-bound _ _ 5 8589934590 i (λ j k. omega (arith, s .narrow j k .ace)) i (sums .ace) (omega arith) head in-reach);
-              asoe = omega (arith, split-bound _ _ 5 8589934590 i (λ j k. omega (arith, s .narrow j k .asoe)) i (sums .asoe) (omega arith) head in-reach);
-              residual = omega (arith, split-bound _ _ 5 8589934590 i (λ j k. let z = keeps-says j (s .each j k) .fields in let y = s .narrow j k in omega arith) i (sums .residual) (omega arith) head in-reach);
+              ace = omega (arith, split-bound _ _ 5 8_589_934_590 i (λ j k. omega (arith, s .narrow j k .ace)) i (sums .ace) (omega arith) head in-reach);
+              asoe = omega (arith, split-bound _ _ 5 8_589_934_590 i (λ j k. omega (arith, s .narrow j k .asoe)) i (sums .asoe) (omega arith) head in-reach);
+              residual = omega (arith, split-bound _ _ 5 8_589_934_590 i (λ j k. let z = keeps-says j (s .each j k) .fields in let y = s .narrow j k in omega arith) i (sums .residual) (omega arith) head in-reach);
             },
           )
 

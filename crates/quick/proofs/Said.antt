@@ -15,8 +15,8 @@ use Rattle.records.specs.declared.rows.UnitRow.{UnitRow}
 use Rattle.records.specs.declared.rows.EnergyRow.{EnergyRow}
 use Rattle.factors.specs.Naming.{namedAt}
 use Rattle.factors.specs.Factors.{factorsAt}
-use Rattle.totals.specs.Sums.{entryAt}
-use Rattle.quick.specs.Holds.{unitsHold, energiesHold}
+use Rattle.totals.specs.Sums.{entryHasSums}
+use Rattle.quick.specs.Inner.Holds.{unitsHold, energiesHold}
 
 -- ---- answers
 
@@ -74,14 +74,14 @@ module _ (con : ℕ → Constraint) (n : ℕ) (unit : ℕ → UnitRow) (m : ℕ)
 pub record EnergiesHold (energy : ℕ → EnergyRow) (n : ℕ) (entry : ℕ → Entry) : Type 0 where
   pub fields : (i : ℕ) → i < n → energyOk (energy i) ≡ true
   pub order : (i : ℕ) → i < n → risesBy energyBelow energy i ≡ true
-  pub sums : (g : ℕ) → g < 5 → entryAt energy n entry g ≡ true
+  pub sums : (g : ℕ) → g < 5 → entryHasSums energy n entry g ≡ true
 
 module _ (energy : ℕ → EnergyRow) (n : ℕ) (entry : ℕ → Entry) where
   abbrev energy-tests : List Bool
   energy-tests =
       all (λ i. energyOk (energy i)) n
       ∷ all (risesBy energyBelow energy) n
-      ∷ all (entryAt energy n entry) 5
+      ∷ all (entryHasSums energy n entry) 5
       ∷ []
 
   pub energies-say : energiesHold energy n entry ≡ true → EnergiesHold energy n entry
@@ -91,11 +91,11 @@ module _ (energy : ℕ → EnergyRow) (n : ℕ) (entry : ℕ → Entry) where
       record {
         fields = all-each (λ i. energyOk (energy i)) n (h .0);
         order = all-each (risesBy energyBelow energy) n (h .1 .0);
-        sums = all-each (entryAt energy n entry) 5 (h .1 .1 .0);
+        sums = all-each (entryHasSums energy n entry) 5 (h .1 .1 .0);
       }
 
   pub energies-said : EnergiesHold energy n entry → energiesHold energy n entry ≡ true
   unfolding energiesHold
   energies-said h =
       tests.all energy-tests
-      (all-of (λ i. energyOk (energy i)) n (h .fields), (all-of (risesBy energyBelow energy) n (h .order), (all-of (entryAt energy n entry) 5 (h .sums), tt)))
+      (all-of (λ i. energyOk (energy i)) n (h .fields), (all-of (risesBy energyBelow energy) n (h .order), (all-of (entryHasSums energy n entry) 5 (h .sums), tt)))

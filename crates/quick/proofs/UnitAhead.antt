@@ -8,23 +8,24 @@ use borrow.Author.Tests.{eqb-true, eq-eqb, not-true, not-false}
 use lib.Dec.{eqb}
 use native.Mathlib.Omega.{arith}
 use native.Mathlib.Nat.{eq-or-lt-of-le}
-use Rattle.sections.specs.Order.{Rises}
+use Rattle.sections.specs.Inner.Order.{Rises}
 use Rattle.sections.proofs.First.{first-good}
 use Rattle.sections.proofs.Order.{rise-keep}
 use Rattle.sections.proofs.Search.{lt-or-ge}
 use Rattle.sections.proofs.Total.{total-zero, total-rest, keyed-miss}
-use Rattle.records.specs.Facts.{ConstraintRule}
+use Rattle.records.specs.Inner.Facts.{ConstraintRule}
 use Rattle.records.specs.declared.rows.Constraint.{Constraint}
 use Rattle.records.specs.declared.rows.UnitRow.{UnitRow}
 use Rattle.records.proofs.Rule.{unit-rules, units-rise}
-use Rattle.factors.specs.Naming.{idOf, keyOf, Owner}
+use Rattle.factors.specs.Naming.{idOf, keyOf}
+use Rattle.factors.specs.Inner.Facts.{Owner}
 use Rattle.factors.specs.Factors.{sumOver}
-use Rattle.factors.specs.Runs.{RunOf}
+use Rattle.factors.specs.Inner.Runs.{RunOf}
 use Rattle.factors.specs.declared.sums.Sums.{Sums}
 use Rattle.factors.proofs.Runs.{factors-is}
 use Rattle.factors.proofs.Said.{owner-of, whole-of, plain-of}
-use Rattle.quick.specs.Holds.{unitsHold}
-use Rattle.quick.specs.Units.{Taken, settled}
+use Rattle.quick.specs.Inner.Holds.{unitsHold}
+use Rattle.quick.specs.Inner.Units.{Taken, runHolds}
 use Rattle.quick.proofs.Said.{same-answer, never-holds, no-yes, UnitsHold, units-say, units-said}
 use Rattle.quick.proofs.UnitTurns.{Small, Settled, settled-says, settled-said}
 use Rattle.quick.proofs.UnitWalk.{Passed, passed-start, passed-under, passed-more, passed-all}
@@ -75,8 +76,8 @@ module _ (con : ℕ → Constraint) (n : ℕ) (row : ℕ → UnitRow) (m : ℕ) 
               under = λ i a. ⊎-elim (λ (b : i < u). omega (arith, passed-under con n row m j u s l refl (p .passed) i b)) (λ (b : u ≤ i). omega (arith, h .along .each i b a .same)) (lt-or-ge i u);
               over = λ i a b. ⊎-elim (λ (e : con j .id ≡ row i .constraint). absurd (behind i a b (sym e))) (λ (g : con j .id < row i .constraint). g) (eq-or-lt-of-le (over i (omega (arith, h .along .low)) b));
             };
-            plus = h .along .plus ∙ whole (λ r. r .plus);
-            minus = h .along .minus ∙ whole (λ r. r .minus);
+            pcf = h .along .pcf ∙ whole (λ r. r .pcf);
+            ncf = h .along .ncf ∙ whole (λ r. r .ncf);
             dcf = h .along .dcf ∙ whole (λ r. r .dcf);
           }
         where
@@ -108,20 +109,20 @@ module _ (con : ℕ → Constraint) (n : ℕ) (row : ℕ → UnitRow) (m : ℕ) 
           none : con j .mode ≡ 0 → Small t
           none z =
               record {
-                plus = omega (arith, zero-sum (λ r. r .plus) z (h .along .plus));
-                minus = omega (arith, zero-sum (λ r. r .minus) z (h .along .minus));
+                pcf = omega (arith, zero-sum (λ r. r .pcf) z (h .along .pcf));
+                ncf = omega (arith, zero-sum (λ r. r .ncf) z (h .along .ncf));
                 dcf = omega (arith, zero-sum (λ r. r .dcf) z (h .along .dcf));
               }
 
           whole : con j .mode ≡ 1 → Small t
           whole z =
               let g = whole-of row m con n (first-good _ n (w .factored)) j l z in
-              record { plus = omega (arith, run-of .plus, g .plus); minus = omega (arith, run-of .minus, g .minus); dcf = omega (arith, run-of .dcf, g .dcf) }
+              record { pcf = omega (arith, run-of .pcf, g .pcf); ncf = omega (arith, run-of .ncf, g .ncf); dcf = omega (arith, run-of .dcf, g .dcf) }
 
           plain : con j .mode ≡ 2 → Small t
           plain z =
               let g = plain-of row m con n (first-good _ n (w .factored)) j l z in
-              record { plus = omega (arith, run-of .plus, g .plus); minus = omega (arith, run-of .minus, g .minus); dcf = omega (arith, run-of .dcf, g .dcf) }
+              record { pcf = omega (arith, run-of .pcf, g .pcf); ncf = omega (arith, run-of .ncf, g .ncf); dcf = omega (arith, run-of .dcf, g .dcf) }
 
       -- the constraint keeps its rule with the sums of the run
       settled-there : Settled (con j) t u
@@ -134,7 +135,7 @@ module _ (con : ℕ → Constraint) (n : ℕ) (row : ℕ → UnitRow) (m : ℕ) 
           ahead = λ w i a b q e. ⊎-elim (λ (z : j ≡ q). absurd (behind w i a b (rw (← z) at (sym e)))) (λ (z : j < q). omega arith) (eq-or-lt-of-le (p .ahead w i (omega (arith, h .along .low)) b q e));
         }
 
-  module _ (s : Rises (idOf con) n) (rules : (j : ℕ) → j < n → ConstraintRule (con j)) (j u : ℕ) {r : Constraint} {t : Sums} {b : Bool} (l : j < n) (e : r ≡ con j) (p : Exactly j u) (h : Taken row m (r .id) u t) (q : b ≡ settled r t u) where
+  module _ (s : Rises (idOf con) n) (rules : (j : ℕ) → j < n → ConstraintRule (con j)) (j u : ℕ) {r : Constraint} {t : Sums} {b : Bool} (l : j < n) (e : r ≡ con j) (p : Exactly j u) (h : Taken row m (r .id) u t) (q : b ≡ runHolds r t u) where
     -- a constraint that keeps its rule; b is what its test answered
     pub exactly-more : not b ≡ false → Exactly (j + 1) (t .next)
     exactly-more d = exactly-next s j u l (rules j l) p (rw e at h) (settled-says (con j) t u (rw e at (sym q ∙ not-false b d)))

@@ -10,10 +10,10 @@ use lib.Dec.{eqb, leb, ltb}
 use native.Mathlib.Omega.{arith}
 use native.Mathlib.Nat.{le-refl}
 use Rattle.ground.specs.Bytes.{u32At}
-use Rattle.ground.specs.Sizes.{sizeOf, plusOf, minusOf}
+use Rattle.ground.specs.Sizes.{sizeBelow, aboveOf, belowOf}
 use Rattle.ground.proofs.Every.{every, all}
 use Rattle.sections.specs.Order.{risesBy, pairBelow}
-use Rattle.sections.specs.Walk.{Under}
+use Rattle.sections.specs.Inner.Walk.{Under}
 use Rattle.sections.specs.Total.{keyed}
 use Rattle.sections.proofs.Order.{rises-first, rises-later, rises-step}
 use Rattle.sections.proofs.Search.{lt-or-ge}
@@ -24,10 +24,11 @@ use Rattle.records.specs.Rules.{unitBelow}
 use Rattle.records.specs.declared.rows.Constraint.{Constraint}
 use Rattle.records.specs.declared.rows.UnitRow.{UnitRow}
 use Rattle.factors.specs.Naming.{keyOf}
-use Rattle.factors.specs.Factors.{sumsOk, sumOver}
-use Rattle.factors.specs.Runs.{Added}
+use Rattle.factors.specs.Factors.{sumOver}
+use Rattle.factors.specs.Inner.Facts.{sumsOk}
+use Rattle.factors.specs.Inner.Runs.{FactorsAdded}
 use Rattle.factors.specs.declared.sums.Sums.{Sums}
-use Rattle.quick.specs.Units.{follows, smallSums, settled, Followed, Along, Taken}
+use Rattle.quick.specs.Inner.Units.{follows, smallSums, runHolds, Followed, Along, Taken}
 use Rattle.quick.proofs.Said.{no-yes}
 
 -- ---- order
@@ -65,15 +66,15 @@ module _ (row : ℕ → UnitRow) (m k start : ℕ) where
     pub above : (i x : ℕ) → suc i ≡ t .next → last < x → pairBelow (row i .constraint) (row i .unit) k x ≡ true
     pub over : (x : ℕ) → 1 ≤ x → ((i : ℕ) → suc i ≡ t .next → pairBelow (row i .constraint) (row i .unit) k x ≡ true) → last < x
 
-  pub going-start : start ≤ m → Under (keyOf row) start k → Going (record { next = start; plus = 0; minus = 0; dcf = 0 }) 0
+  pub going-start : start ≤ m → Under (keyOf row) start k → Going (record { next = start; pcf = 0; ncf = 0; dcf = 0 }) 0
   going-start l under =
       record {
         along = record {
           low = le-refl start;
           high = l;
           each = λ i a b. absurd (none i a b);
-          plus = nothing (λ r. r .plus);
-          minus = nothing (λ r. r .minus);
+          pcf = nothing (λ r. r .pcf);
+          ncf = nothing (λ r. r .ncf);
           dcf = nothing (λ r. r .dcf);
         };
         above = λ i x e h. pair-first (row i .constraint) (row i .unit) k x (under i (omega arith));
@@ -86,7 +87,7 @@ module _ (row : ℕ → UnitRow) (m k start : ℕ) where
       nothing : (f : UnitRow → ℕ) → 0 ≡ sumOver row start k f
       nothing f = total-zero _ start (λ i b. keyed-miss (keyOf row) k (λ u. f (row u)) i (λ (q : keyOf row i ≡ k). omega (arith, under i b)))
 
-  pub going-more : {t x : Sums} {r : UnitRow} {last : ℕ} {b : Bool} → Going t last → t .next < m → r ≡ row (t .next) → b ≡ follows r k last → not b ≡ false → Added t r x → Going x (r .unit)
+  pub going-more : {t x : Sums} {r : UnitRow} {last : ℕ} {b : Bool} → Going t last → t .next < m → r ≡ row (t .next) → b ≡ follows r k last → not b ≡ false → FactorsAdded t r x → Going x (r .unit)
   going-more {t} {x} {r} {last} {b} g l e q n a =
       let h = every (eqb (r .constraint) k ∷ ltb last (r .unit) ∷ leb 1 (r .account) ∷ []) (sym q ∙ not-false b n) in
       let u = t .next in
@@ -107,8 +108,8 @@ module _ (row : ℕ → UnitRow) (m k start : ℕ) where
           low = omega (arith, a .next, s .low);
           high = omega (arith, a .next);
           each = λ i c d. below-more (λ (i : ℕ). start ≤ i → Followed row k i) u (λ i y z. s .each i z y) (λ _. here) i (rw (a .next) at d) c;
-          plus = rw (a .plus, a .next) (sum-more _ m k _ u (s .plus) key (ap (λ (r : UnitRow). r .plus) e));
-          minus = rw (a .minus, a .next) (sum-more _ m k _ u (s .minus) key (ap (λ (r : UnitRow). r .minus) e));
+          pcf = rw (a .pcf, a .next) (sum-more _ m k _ u (s .pcf) key (ap (λ (r : UnitRow). r .pcf) e));
+          ncf = rw (a .ncf, a .next) (sum-more _ m k _ u (s .ncf) key (ap (λ (r : UnitRow). r .ncf) e));
           dcf = rw (a .dcf, a .next) (sum-more _ m k _ u (s .dcf) key (ap (λ (r : UnitRow). r .dcf) e));
         };
         above = λ i y z w. last-row u i y key (ap (λ (r : UnitRow). r .unit) e) (omega (arith, a .next)) w;
@@ -140,7 +141,7 @@ module _ (row : ℕ → UnitRow) (m k start : ℕ) where
 
   -- no second end and no other sums fit a run
   pub taken-once : (t x : Sums) → Taken row m k start t → Taken row m k start x → t ≡ x
-  taken-once t x h g = λ j. record { next = next j; plus = sums (λ r. r .plus) (h .along .plus) (g .along .plus) j; minus = sums (λ r. r .minus) (h .along .minus) (g .along .minus) j; dcf = sums (λ r. r .dcf) (h .along .dcf) (g .along .dcf) j }
+  taken-once t x h g = λ j. record { next = next j; pcf = sums (λ r. r .pcf) (h .along .pcf) (g .along .pcf) j; ncf = sums (λ r. r .ncf) (h .along .ncf) (g .along .ncf) j; dcf = sums (λ r. r .dcf) (h .along .dcf) (g .along .dcf) j }
     where
       not-before : (t x : Sums) → Taken row m k start t → Taken row m k start x → t .next < x .next → ⊥
       not-before t x h g l = h .ended (omega (arith, g .along .high)) (g .along .each (t .next) (h .along .low) l)
@@ -160,108 +161,108 @@ module _ (row : ℕ → UnitRow) (m k start : ℕ) where
 
 -- ---- sums that fit
 
-plus-narrow : (w : ℕ) → plusOf w ≤ 4294967295
-unfolding plusOf
-plus-narrow w = by (ltb w 2147483648) refl
+plus-narrow : (w : ℕ) → aboveOf w ≤ 4_294_967_295
+unfolding aboveOf
+plus-narrow w = by (ltb w 2_147_483_648) refl
   where
-    by : (t : Bool) → ltb w 2147483648 ≡ t → cond t w 0 ≤ 4294967295
-    by true e = let l = ltb-true w 2147483648 e in omega arith
+    by : (t : Bool) → ltb w 2_147_483_648 ≡ t → cond t w 0 ≤ 4_294_967_295
+    by true e = let l = ltb-true w 2_147_483_648 e in omega arith
     by false e = omega arith
 
-size-narrow : (w : ℕ) → sizeOf w ≤ 4294967295
+size-narrow : (w : ℕ) → sizeBelow w ≤ 4_294_967_295
 size-narrow w = omega arith
 
-minus-narrow : (w : ℕ) → minusOf w ≤ 4294967295
-unfolding minusOf
-minus-narrow w = by (ltb w 2147483648)
+minus-narrow : (w : ℕ) → belowOf w ≤ 4_294_967_295
+unfolding belowOf
+minus-narrow w = by (ltb w 2_147_483_648)
   where
-    by : (t : Bool) → cond t 0 (sizeOf w) ≤ 4294967295
+    by : (t : Bool) → cond t 0 (sizeBelow w) ≤ 4_294_967_295
     by true = omega arith
     by false = size-narrow w
 
 module _ (s : List ℕ) where
-  row-plus : (i : ℕ) → unitRow s i .plus ≤ 4294967295
+  row-pcf : (i : ℕ) → unitRow s i .pcf ≤ 4_294_967_295
   unfolding unitRow
-  row-plus i = plus-narrow (u32At s (i * 20 + 12))
+  row-pcf i = plus-narrow (u32At s (i * 20 + 12))
 
-  row-minus : (i : ℕ) → unitRow s i .minus ≤ 4294967295
+  row-ncf : (i : ℕ) → unitRow s i .ncf ≤ 4_294_967_295
   unfolding unitRow
-  row-minus i = minus-narrow (u32At s (i * 20 + 12))
+  row-ncf i = minus-narrow (u32At s (i * 20 + 12))
 
-  row-dcf : (i : ℕ) → unitRow s i .dcf ≤ 4294967295
+  row-dcf : (i : ℕ) → unitRow s i .dcf ≤ 4_294_967_295
   unfolding unitRow
   row-dcf i = size-narrow (u32At s (i * 20 + 16))
 
-  bound : (f : UnitRow → ℕ) (n k : ℕ) → n ≤ 600 → ((i : ℕ) → f (unitRow s i) ≤ 4294967295) → sumOver (unitRow s) n k f ≤ 3000000000000
+  bound : (f : UnitRow → ℕ) (n k : ℕ) → n ≤ 600 → ((i : ℕ) → f (unitRow s i) ≤ 4_294_967_295) → sumOver (unitRow s) n k f ≤ 3_000_000_000_000
   bound f n k few h =
-      omega (arith, total-bound (keyed (keyOf (unitRow s)) k (λ u. f (unitRow s u))) 4294967295 n (λ i _. keyed-le (keyOf (unitRow s)) k (λ u. f (unitRow s u)) 4294967295 i (h i)))
+      omega (arith, total-bound (keyed (keyOf (unitRow s)) k (λ u. f (unitRow s u))) 4_294_967_295 n (λ i _. keyed-le (keyOf (unitRow s)) k (λ u. f (unitRow s u)) 4_294_967_295 i (h i)))
 
   -- sums of at most 600 sizes of 32 bits
   pub record Fits (t : Sums) : Type 0 where
-    pub plus : t .plus ≤ 3000000000000
-    pub minus : t .minus ≤ 3000000000000
-    pub dcf : t .dcf ≤ 3000000000000
+    pub pcf : t .pcf ≤ 3_000_000_000_000
+    pub ncf : t .ncf ≤ 3_000_000_000_000
+    pub dcf : t .dcf ≤ 3_000_000_000_000
 
   pub along-fits : (m k start : ℕ) {t : Sums} → m ≤ 600 → Along (unitRow s) m k start t → Fits t
   along-fits m k start {t} few h =
       let l : t .next ≤ 600 = omega (arith, h .high) in
       record {
-        plus = rw (h .plus) (bound (λ r. r .plus) (t .next) k l row-plus);
-        minus = rw (h .minus) (bound (λ r. r .minus) (t .next) k l row-minus);
+        pcf = rw (h .pcf) (bound (λ r. r .pcf) (t .next) k l row-pcf);
+        ncf = rw (h .ncf) (bound (λ r. r .ncf) (t .next) k l row-ncf);
         dcf = rw (h .dcf) (bound (λ r. r .dcf) (t .next) k l row-dcf);
       }
 
 -- ---- the test of a constraint
 
 pub record Small (t : Sums) : Type 0 where
-  pub plus : t .plus ≤ 1000000
-  pub minus : t .minus ≤ 1000000
-  pub dcf : t .dcf ≤ 1000000
+  pub pcf : t .pcf ≤ 1_000_000
+  pub ncf : t .ncf ≤ 1_000_000
+  pub dcf : t .dcf ≤ 1_000_000
 
 pub small-sums : (t : Sums) {b : Bool} → b ≡ smallSums t → not b ≡ false → Small t
 small-sums t {b} e n =
-    let h = every (leb (t .plus) 1000000 ∷ leb (t .minus) 1000000 ∷ leb (t .dcf) 1000000 ∷ []) (sym e ∙ not-false b n) in
+    let h = every (leb (t .pcf) 1_000_000 ∷ leb (t .ncf) 1_000_000 ∷ leb (t .dcf) 1_000_000 ∷ []) (sym e ∙ not-false b n) in
     record {
-      plus = leb-true (t .plus) 1000000 (h .0);
-      minus = leb-true (t .minus) 1000000 (h .1 .0);
-      dcf = leb-true (t .dcf) 1000000 (h .1 .1 .0);
+      pcf = leb-true (t .pcf) 1_000_000 (h .0);
+      ncf = leb-true (t .ncf) 1_000_000 (h .1 .0);
+      dcf = leb-true (t .dcf) 1_000_000 (h .1 .1 .0);
     }
 
 -- so they are what the test of the sums asks for
-pub small-room : {t : Sums} → Small t → (t .plus ≤ 600000000) × ((t .minus ≤ 600000000) × (t .dcf ≤ 600000000))
-small-room h = (omega (arith, h .plus), (omega (arith, h .minus), omega (arith, h .dcf)))
+pub small-room : {t : Sums} → Small t → (t .pcf ≤ 600_000_000) × ((t .ncf ≤ 600_000_000) × (t .dcf ≤ 600_000_000))
+small-room h = (omega (arith, h .pcf), (omega (arith, h .ncf), omega (arith, h .dcf)))
 
 -- the answer where they are not small, and where they are; b is what the test of the sums answered
-pub settles-no : (r : Constraint) (t : Sums) (start : ℕ) {b : Bool} → b ≡ smallSums t → not b ≡ true → false ≡ settled r t start
+pub settles-no : (r : Constraint) (t : Sums) (start : ℕ) {b : Bool} → b ≡ smallSums t → not b ≡ true → false ≡ runHolds r t start
 settles-no r t start {b} e n =
-    ap (λ (z : Bool). z && ((not (eqb (r .mode) 0) || eqb (t .next) start) && sumsOk r (t .plus) (t .minus) (t .dcf))) (sym (sym e ∙ not-true b n))
+    ap (λ (z : Bool). z && ((not (eqb (r .mode) 0) || eqb (t .next) start) && sumsOk r (t .pcf) (t .ncf) (t .dcf))) (sym (sym e ∙ not-true b n))
 
-pub settles-by : (r : Constraint) (t : Sums) (start : ℕ) {a b : Bool} → a ≡ smallSums t → not a ≡ false → b ≡ sumsOk r (t .plus) (t .minus) (t .dcf) → ((not (eqb (r .mode) 0) || eqb (t .next) start) && b) ≡ settled r t start
+pub settles-by : (r : Constraint) (t : Sums) (start : ℕ) {a b : Bool} → a ≡ smallSums t → not a ≡ false → b ≡ sumsOk r (t .pcf) (t .ncf) (t .dcf) → ((not (eqb (r .mode) 0) || eqb (t .next) start) && b) ≡ runHolds r t start
 settles-by r t start {a} {b} e n q =
     ap (λ (z : Bool). (not (eqb (r .mode) 0) || eqb (t .next) start) && z) q
-    ∙ ap (λ (z : Bool). z && ((not (eqb (r .mode) 0) || eqb (t .next) start) && sumsOk r (t .plus) (t .minus) (t .dcf))) (sym (sym e ∙ not-false a n))
+    ∙ ap (λ (z : Bool). z && ((not (eqb (r .mode) 0) || eqb (t .next) start) && sumsOk r (t .pcf) (t .ncf) (t .dcf))) (sym (sym e ∙ not-false a n))
 
 -- what it says that a constraint keeps its rule, and back
 pub record Settled (r : Constraint) (t : Sums) (start : ℕ) : Type 0 where
   pub live : r .mode ≡ 0 → t .next ≡ start
   pub small : Small t
-  pub sums : sumsOk r (t .plus) (t .minus) (t .dcf) ≡ true
+  pub sums : sumsOk r (t .pcf) (t .ncf) (t .dcf) ≡ true
 
-pub settled-says : (r : Constraint) (t : Sums) (start : ℕ) → settled r t start ≡ true → Settled r t start
+pub settled-says : (r : Constraint) (t : Sums) (start : ℕ) → runHolds r t start ≡ true → Settled r t start
 settled-says r t start h =
-    let g = every (smallSums t ∷ ((not (eqb (r .mode) 0) || eqb (t .next) start) && sumsOk r (t .plus) (t .minus) (t .dcf)) ∷ []) h in
-    let k = every ((not (eqb (r .mode) 0) || eqb (t .next) start) ∷ sumsOk r (t .plus) (t .minus) (t .dcf) ∷ []) (g .1 .0) in
+    let g = every (smallSums t ∷ ((not (eqb (r .mode) 0) || eqb (t .next) start) && sumsOk r (t .pcf) (t .ncf) (t .dcf)) ∷ []) h in
+    let k = every ((not (eqb (r .mode) 0) || eqb (t .next) start) ∷ sumsOk r (t .pcf) (t .ncf) (t .dcf) ∷ []) (g .1 .0) in
     record {
       live = λ (q : r .mode ≡ 0). eqb-true (t .next) start (rw (eq-eqb (r .mode) 0 q) at (k .0));
       small = small-sums t refl (ap not (g .0));
       sums = k .1 .0;
     }
 
-pub settled-said : (r : Constraint) (t : Sums) (start : ℕ) → Settled r t start → settled r t start ≡ true
+pub settled-said : (r : Constraint) (t : Sums) (start : ℕ) → Settled r t start → runHolds r t start ≡ true
 settled-said r t start s =
-    all (smallSums t ∷ ((not (eqb (r .mode) 0) || eqb (t .next) start) && sumsOk r (t .plus) (t .minus) (t .dcf)) ∷ []) (
-      all (leb (t .plus) 1000000 ∷ leb (t .minus) 1000000 ∷ leb (t .dcf) 1000000 ∷ []) (le-leb (t .plus) 1000000 (s .small .plus), (le-leb (t .minus) 1000000 (s .small .minus), (le-leb (t .dcf) 1000000 (s .small .dcf), tt))),
-      (all ((not (eqb (r .mode) 0) || eqb (t .next) start) ∷ sumsOk r (t .plus) (t .minus) (t .dcf) ∷ []) (live (eqb (r .mode) 0) refl, (s .sums, tt)), tt),
+    all (smallSums t ∷ ((not (eqb (r .mode) 0) || eqb (t .next) start) && sumsOk r (t .pcf) (t .ncf) (t .dcf)) ∷ []) (
+      all (leb (t .pcf) 1_000_000 ∷ leb (t .ncf) 1_000_000 ∷ leb (t .dcf) 1_000_000 ∷ []) (le-leb (t .pcf) 1_000_000 (s .small .pcf), (le-leb (t .ncf) 1_000_000 (s .small .ncf), (le-leb (t .dcf) 1_000_000 (s .small .dcf), tt))),
+      (all ((not (eqb (r .mode) 0) || eqb (t .next) start) ∷ sumsOk r (t .pcf) (t .ncf) (t .dcf) ∷ []) (live (eqb (r .mode) 0) refl, (s .sums, tt)), tt),
     )
   where
     live : (z : Bool) → eqb (r .mode) 0 ≡ z → (not z || eqb (t .next) start) ≡ true

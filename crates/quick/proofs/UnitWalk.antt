@@ -9,21 +9,24 @@ use borrow.Author.Count.{below-none, below-more}
 use lib.Dec.{eqb}
 use native.Mathlib.Omega.{arith}
 use Rattle.ground.proofs.Every.{all}
-use Rattle.sections.specs.Order.{risesBy, Rises}
+use Rattle.sections.specs.Order.{risesBy}
+use Rattle.sections.specs.Inner.Order.{Rises}
 use Rattle.sections.specs.Search.{some}
-use Rattle.sections.specs.Walk.{Under}
+use Rattle.sections.specs.Inner.Walk.{Under}
 use Rattle.sections.specs.Total.{keyed}
 use Rattle.sections.proofs.Search.{some-here, lt-or-ge}
 use Rattle.sections.proofs.Total.{total-rest, keyed-hit, keyed-miss, total-has}
 use Rattle.records.specs.Rules.{unitTests, unitOk, unitBelow}
-use Rattle.records.specs.Facts.{ConstraintRule}
+use Rattle.records.specs.Inner.Facts.{ConstraintRule}
 use Rattle.records.specs.declared.rows.Constraint.{Constraint}
 use Rattle.records.specs.declared.rows.UnitRow.{UnitRow}
-use Rattle.factors.specs.Naming.{idOf, keyOf, namedAt, Owner}
-use Rattle.factors.specs.Factors.{sumsOk, sumOver, factorsAt}
+use Rattle.factors.specs.Naming.{idOf, keyOf, namedAt}
+use Rattle.factors.specs.Inner.Facts.{Owner}
+use Rattle.factors.specs.Factors.{sumOver, factorsAt}
+use Rattle.factors.specs.Inner.Facts.{sumsOk}
 use Rattle.factors.specs.declared.sums.Sums.{Sums}
 use Rattle.factors.proofs.Runs.{none-is}
-use Rattle.quick.specs.Units.{Taken}
+use Rattle.quick.specs.Inner.Units.{Taken}
 use Rattle.quick.proofs.Said.{UnitsHold}
 use Rattle.quick.proofs.UnitTurns.{Settled}
 
@@ -34,7 +37,7 @@ module _ (con : ℕ → Constraint) (n : ℕ) (row : ℕ → UnitRow) (m : ℕ) 
     pub own : (i : ℕ) → i < u → Owner con j row i
     pub fields : (i : ℕ) → i < u → unitOk (row i) ≡ true
     pub order : (i : ℕ) → i < u → risesBy unitBelow row i ≡ true
-    pub sums : (i : ℕ) → i < j → sumsOk (con i) (sumOver row u (con i .id) (λ r. r .plus)) (sumOver row u (con i .id) (λ r. r .minus)) (sumOver row u (con i .id) (λ r. r .dcf)) ≡ true
+    pub sums : (i : ℕ) → i < j → sumsOk (con i) (sumOver row u (con i .id) (λ r. r .pcf)) (sumOver row u (con i .id) (λ r. r .ncf)) (sumOver row u (con i .id) (λ r. r .dcf)) ≡ true
 
   pub passed-start : Passed 0 0
   passed-start =
@@ -52,7 +55,7 @@ module _ (con : ℕ → Constraint) (n : ℕ) (row : ℕ → UnitRow) (m : ℕ) 
     both P a b i d = ⊎-elim (λ (x : i < u). a i x) (λ (x : u ≤ i). b i x d) (lt-or-ge i u)
 
     -- a number of a row in the run is at most the sum
-    part : (f : UnitRow → ℕ) {x : ℕ} (i : ℕ) → i < t .next → row i .constraint ≡ con j .id → x ≡ sumOver row (t .next) (con j .id) f → x ≤ 1000000 → f (row i) ≤ 1000000
+    part : (f : UnitRow → ℕ) {x : ℕ} (i : ℕ) → i < t .next → row i .constraint ≡ con j .id → x ≡ sumOver row (t .next) (con j .id) f → x ≤ 1_000_000 → f (row i) ≤ 1_000_000
     part f i d e q b =
         let z = total-has (keyed (keyOf row) (con j .id) (λ v. f (row v))) (t .next) i d in
         rw (keyed-hit (keyOf row) (con j .id) (λ v. f (row v)) i e) (omega arith)
@@ -67,10 +70,10 @@ module _ (con : ℕ → Constraint) (n : ℕ) (row : ℕ → UnitRow) (m : ℕ) 
             (
               le-leb 1 (row i .account) (f .account),
               (
-                le-leb (row i .plus) 1000000 (part (λ r. r .plus) i d (f .same) (h .along .plus) (g .small .plus)),
+                le-leb (row i .pcf) 1_000_000 (part (λ r. r .pcf) i d (f .same) (h .along .pcf) (g .small .pcf)),
                 (
-                  le-leb (row i .minus) 1000000 (part (λ r. r .minus) i d (f .same) (h .along .minus) (g .small .minus)),
-                  (le-leb (row i .dcf) 1000000 (part (λ r. r .dcf) i d (f .same) (h .along .dcf) (g .small .dcf)), tt),
+                  le-leb (row i .ncf) 1_000_000 (part (λ r. r .ncf) i d (f .same) (h .along .ncf) (g .small .ncf)),
+                  (le-leb (row i .dcf) 1_000_000 (part (λ r. r .dcf) i d (f .same) (h .along .dcf) (g .small .dcf)), tt),
                 ),
               ),
             ),
@@ -103,8 +106,8 @@ module _ (con : ℕ → Constraint) (n : ℕ) (row : ℕ → UnitRow) (m : ℕ) 
           fields = both (λ (i : ℕ). unitOk (row i) ≡ true) (p .fields) fields-of;
           order = both (λ (i : ℕ). risesBy unitBelow row i ≡ true) (p .order) (λ i a d. h .along .each i a d .order);
           sums = below-more _ j
-              (λ i a. rw (kept (λ r. r .plus) i a, kept (λ r. r .minus) i a, kept (λ r. r .dcf) i a) at (p .sums i a))
-              (rw (h .along .plus, h .along .minus, h .along .dcf) at (g .sums));
+              (λ i a. rw (kept (λ r. r .pcf) i a, kept (λ r. r .ncf) i a, kept (λ r. r .dcf) i a) at (p .sums i a))
+              (rw (h .along .pcf, h .along .ncf, h .along .dcf) at (g .sums));
         }
 
   -- all constraints passed, and all rows taken

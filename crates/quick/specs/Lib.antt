@@ -1,3 +1,1 @@
-pub mod Holds
-pub mod Energies
-pub mod Units
+pub mod Inner

@@ -5,10 +5,10 @@ ghost use mathlib.Core.Path.{_≡_};
 ghost use Prim.Native.Nat.{ℕ, _+_, _*_, _≤_, _<_};
 ghost use lib.ListN.{length, getD, set};
 ghost use Rattle.records.specs.Rows.{entryRow, energyRow};
-ghost use Rattle.records.specs.Facts.{EntryRule};
+ghost use Rattle.records.specs.Inner.Facts.{EntryRule};
 ghost use Rattle.totals.specs.Sums.{entryIs};
-ghost use Rattle.quick.specs.Holds.{energiesHold};
-ghost use Rattle.quick.specs.Energies.{rowHolds, Room, Added, SummedIs};
+ghost use Rattle.quick.specs.Inner.Holds.{energiesHold};
+ghost use Rattle.quick.specs.Inner.Energies.{rowHolds, SumRoom, EnergyAdded, SummedIs};
 use ground::read;
 use records::rows;
 use records::rows::EnergyRow;
@@ -31,9 +31,9 @@ fn head_at(energy: &[u8], i: usize) -> u32
 
 // Rows rise where these numbers do.
 fn key_of(account: u32, head: u32) -> u64
-    ensures { λ k. ⌜ k ≡ account * 4294967296 + head ⌝ }
+    ensures { λ k. ⌜ k ≡ account * 4_294_967_296 + head ⌝ }
 {
-    (account as u64) * 4294967296 + (head as u64)
+    (account as u64) * 4_294_967_296 + (head as u64)
 }
 
 // Whether a row has a region, reserved bytes of 0 and residuals within its energies, and is above the row before it.
@@ -46,7 +46,7 @@ fn row_holds(r: EnergyRow, head: u32, before: u64) -> bool
 
 // One more number in region g's sum.
 fn add(a: &mut [u64; 5], g: usize, x: u64)
-    requires { ⌜ (g < 5) × ((getD (now a) g 0 ≤ 8796093022208) × (x ≤ 8589934592)) ⌝ }
+    requires { ⌜ (g < 5) × ((getD (now a) g 0 ≤ 8_796_093_022_208) × (x ≤ 8_589_934_592)) ⌝ }
     ensures { λ _. ⌜ now (a .exit) ≡ set (now (a .entry)) g (getD (now (a .entry)) g 0 + x) ⌝ }
 {
     a[g] = a[g] + x;
@@ -54,8 +54,8 @@ fn add(a: &mut [u64; 5], g: usize, x: u64)
 
 // A row in its region's sums.
 fn add_row(ace: &mut [u64; 5], asoe: &mut [u64; 5], residual: &mut [u64; 5], r: EnergyRow, g: usize)
-    requires { ⌜ (g < 5) × Room (record { ace = now ace; asoe = now asoe; residual = now residual }) g ⌝ }
-    ensures { λ _. ⌜ Added (record { ace = now (ace .entry); asoe = now (asoe .entry); residual = now (residual .entry) }) g r (record { ace = now (ace .exit); asoe = now (asoe .exit); residual = now (residual .exit) }) ⌝ }
+    requires { ⌜ (g < 5) × SumRoom (record { ace = now ace; asoe = now asoe; residual = now residual }) g ⌝ }
+    ensures { λ _. ⌜ EnergyAdded (record { ace = now (ace .entry); asoe = now (asoe .entry); residual = now (residual .entry) }) g r (record { ace = now (ace .exit); asoe = now (asoe .exit); residual = now (residual .exit) }) ⌝ }
 {
     add(ace, g, r.ace as u64);
     add(asoe, g, r.asoe as u64);
@@ -70,7 +70,7 @@ fn sum_rows(energy: &[u8], n: usize) -> Summed
     let mut ace = [0u64; 5];
     let mut asoe = [0u64; 5];
     let mut residual = [0u64; 5];
-    let mut before = 4294967295;
+    let mut before = 4_294_967_295;
     let mut i = 0;
     while i < n {
         let r = rows::energy_row(energy, i);

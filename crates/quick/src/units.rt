@@ -5,13 +5,13 @@
 ghost use mathlib.Core.Path.{_≡_};
 ghost use Prim.Native.Nat.{ℕ, _+_, _*_, _≤_, _<_};
 ghost use lib.ListN.{length};
-ghost use Rattle.sections.specs.Order.{Rises};
-ghost use Rattle.sections.specs.Walk.{Under};
+ghost use Rattle.sections.specs.Inner.Order.{Rises};
+ghost use Rattle.sections.specs.Inner.Walk.{Under};
 ghost use Rattle.records.specs.Rows.{constraintRow, unitRow};
-ghost use Rattle.records.specs.Facts.{ConstraintRule};
+ghost use Rattle.records.specs.Inner.Facts.{ConstraintRule};
 ghost use Rattle.factors.specs.Naming.{idOf, keyOf};
-ghost use Rattle.quick.specs.Holds.{unitsHold};
-ghost use Rattle.quick.specs.Units.{follows, smallSums, settled, Taken};
+ghost use Rattle.quick.specs.Inner.Holds.{unitsHold};
+ghost use Rattle.quick.specs.Inner.Units.{follows, smallSums, runHolds, Taken};
 use factors::sums;
 use factors::sums::Sums;
 use market::Mode;
@@ -34,8 +34,8 @@ fn run(units: &[u8], m: usize, from: usize, key: u32) -> Sums
 {
     let mut t = Sums {
         next: from,
-        plus: 0,
-        minus: 0,
+        pcf: 0,
+        ncf: 0,
         dcf: 0,
     };
     let mut last = 0;
@@ -55,12 +55,12 @@ fn run(units: &[u8], m: usize, from: usize, key: u32) -> Sums
 fn small(t: Sums) -> bool
     ensures { λ b. ⌜ b ≡ smallSums t ⌝ }
 {
-    (t.plus <= 1000000) & (t.minus <= 1000000) & (t.dcf <= 1000000)
+    (t.pcf <= 1_000_000) & (t.ncf <= 1_000_000) & (t.dcf <= 1_000_000)
 }
 
 // Whether a constraint keeps its rule with the sums of its run. One of mode 0 has no row.
 fn settles(r: Constraint, t: Sums, from: usize) -> bool
-    ensures { λ b. ⌜ b ≡ settled r t from ⌝ }
+    ensures { λ b. ⌜ b ≡ runHolds r t from ⌝ }
 {
     if !small(t) {
         return false;

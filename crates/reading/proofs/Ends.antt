@@ -7,7 +7,7 @@ use lib.Dec.{leb}
 use lib.ListN.{length}
 use native.Mathlib.Omega.{arith}
 use borrow.Author.Tests.{le-leb, lt-leb, leb-true, not-true, not-false}
-use Rattle.ground.specs.Every.{Every}
+use Rattle.ground.specs.Inner.Every.{Every}
 use Rattle.ground.proofs.Every.{every}
 use Rattle.sections.specs.Search.{all}
 use Rattle.statement.specs.declared.Heading.{Heading}

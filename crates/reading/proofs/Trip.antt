@@ -16,7 +16,7 @@ use Rattle.ground.proofs.Back.{le16-part, le32-part, int64-part}
 use Rattle.sections.proofs.Search.{all-each}
 use Rattle.statement.specs.Statement.{rcs, headingBytes, lineBytes, linesBytes, statementBytes}
 use Rattle.statement.proofs.Lines.{lines-append, lines-one}
-use Rattle.reading.specs.Reading.{headingAt, markTests, marked, lineFrom, lineAt, linesIn, spareClear, lineOk, lineHolds, isStatement}
+use Rattle.reading.specs.Reading.{headingAt, markTests, statementMarked, lineFrom, lineAt, linesIn, spareClear, lineOk, lineHolds, isStatement}
 use Rattle.reading.proofs.Whole.{headed-length, headed-marked}
 use Rattle.reading.proofs.Ends.{statement-long, statement-headed, statement-lines}
 
@@ -61,14 +61,14 @@ module _ (s : List ℕ) (b : AreBytes s) where
       ∙ ap (part s 24) (omega arith)
 
   -- the mark
-  mark-part : 24 ≤ length s → marked s ≡ true → rcs ≡ part s 0 3
+  mark-part : 24 ≤ length s → statementMarked s ≡ true → rcs ≡ part s 0 3
   unfolding rcs
   mark-part h z =
       let t = every (markTests s) z in
       rw (part-first s 0 2 (omega arith), part-first s 1 1 (omega arith), part-first s 2 0 (omega arith), part-none, eqb-true (byteAt s 0) 82 (t .0), eqb-true (byteAt s 1) 67 (t .1 .0), eqb-true (byteAt s 2) 83 (t .1 .1 .0))
 
   -- the header
-  heading-part : 24 ≤ length s → marked s ≡ true → headingBytes (headingAt s) ≡ part s 0 24
+  heading-part : 24 ≤ length s → statementMarked s ≡ true → headingBytes (headingAt s) ≡ part s 0 24
   unfolding headingBytes headingAt
   heading-part h z =
       let t = every (markTests s) z in

@@ -7,19 +7,19 @@ use lib.Dec.{eqb}
 use lib.ListN.{length}
 use native.Mathlib.Omega.{arith}
 use borrow.Author.Tests.{le-leb, lt-leb, eqb-true, not-true, not-false}
-use Rattle.ground.specs.Every.{Every}
+use Rattle.ground.specs.Inner.Every.{Every}
 use Rattle.ground.proofs.Every.{every}
 use Rattle.sections.specs.Search.{all}
 use Rattle.statement.specs.declared.Heading.{Heading}
-use Rattle.reading.specs.Reading.{headingAt, headingOk, marked, headed, lineHolds, isStatement}
+use Rattle.reading.specs.Reading.{headingAt, headingOk, statementMarked, headed, lineHolds, isStatement}
 
 -- what a header says of the bytes
 module _ (s : List ℕ) (q : headed s ≡ true) where
-  tests : Every (marked s ∷ headingOk (headingAt s) ∷ eqb (length s) (24 + headingAt s .lines * 24) ∷ [])
+  tests : Every (statementMarked s ∷ headingOk (headingAt s) ∷ eqb (length s) (24 + headingAt s .lines * 24) ∷ [])
   unfolding headed
-  tests = every (marked s ∷ headingOk (headingAt s) ∷ eqb (length s) (24 + headingAt s .lines * 24) ∷ []) q
+  tests = every (statementMarked s ∷ headingOk (headingAt s) ∷ eqb (length s) (24 + headingAt s .lines * 24) ∷ []) q
 
-  pub headed-marked : marked s ≡ true
+  pub headed-marked : statementMarked s ≡ true
   headed-marked = tests .0
 
   pub headed-length : length s ≡ 24 + headingAt s .lines * 24

@@ -14,8 +14,8 @@ use lib.Seq.{split-at, take-suc, take-length, length-take-le}
 use mir.Syntax.{w64}
 use mir.Val.{SFits}
 use Rattle.ground.specs.Bytes.{byteAt, u16At, u32At, i64At, part}
-use Rattle.ground.specs.Each.{Each}
-use Rattle.ground.specs.Every.{Every}
+use Rattle.ground.specs.Inner.Each.{Each}
+use Rattle.ground.specs.Inner.Every.{Every}
 use Rattle.ground.specs.Le.{le16, le32, le64, int64}
 use Rattle.ground.proofs.Each.{each-at}
 use Rattle.ground.proofs.Every.{every, all}
@@ -28,8 +28,8 @@ use Rattle.statement.specs.Statement.{rcs, headingBytes, lineBytes, linesBytes,
 use Rattle.statement.specs.declared.Heading.{Heading}
 use Rattle.statement.specs.declared.Line.{Line}
 use Rattle.statement.proofs.Lines.{heading-length, line-length, lines-length, lines-append, statement-length}
-use Rattle.reading.specs.Reading.{headingAt, headingOk, marked, lineFrom, lineAt, linesIn, regionsOk, unitOk, amountOk, lineOk, lineHolds, headed, isStatement}
-use Rattle.reading.specs.Writable.{WritableHeading, WritableLine}
+use Rattle.reading.specs.Reading.{headingAt, headingOk, statementMarked, lineFrom, lineAt, linesIn, regionsOk, unitFieldOk, amountOk, lineOk, lineHolds, headed, isStatement}
+use Rattle.reading.specs.Inner.Writable.{WritableHeading, WritableLine}
 use Rattle.reading.proofs.Read.{heading-is, line-is}
 
 -- ---- what is in range fits
@@ -45,7 +45,7 @@ module _ (interval date run : ℕ) (p : isPeriod interval date run ≡ true) whe
   date-fits : date < 2 ^ 32
   unfolding isDate
   date-fits =
-      let y = date / 10000 in
+      let y = date / 10_000 in
       let m = date / 100 % 100 in
       let d = date % 100 in
       let t = every (leb 2025 y ∷ leb y 2099 ∷ leb 1 m ∷ leb m 12 ∷ leb 1 d ∷ leb d (daysIn y m) ∷ []) (period .1 .0) in
@@ -56,9 +56,9 @@ module _ (interval date run : ℕ) (p : isPeriod interval date run ≡ true) whe
 
 amount-fits : (l : Line) → lineOk l ≡ true → SFits w64 (l .amount)
 amount-fits l e =
-    let t = every (leb 1 (l .id) ∷ leb 1 (l .part) ∷ leb (l .part) 10 ∷ regionsOk (l .part) (l .regions) ∷ unitOk (l .part) (l .unit) ∷ amountOk (l .part) (l .amount) ∷ []) e in
-    let a = every (leb (natAbs (l .amount)) 50000000000 ∷ _ ∷ []) (t .1 .1 .1 .1 .1 .0) in
-    sized (l .amount) (omega (arith, leb-true (natAbs (l .amount)) 50000000000 (a .0)))
+    let t = every (leb 1 (l .id) ∷ leb 1 (l .part) ∷ leb (l .part) 10 ∷ regionsOk (l .part) (l .regions) ∷ unitFieldOk (l .part) (l .unit) ∷ amountOk (l .part) (l .amount) ∷ []) e in
+    let a = every (leb (natAbs (l .amount)) 50_000_000_000 ∷ _ ∷ []) (t .1 .1 .1 .1 .1 .0) in
+    sized (l .amount) (omega (arith, leb-true (natAbs (l .amount)) 50_000_000_000 (a .0)))
 
 -- ---- a line's own bytes
 
@@ -118,7 +118,7 @@ module _ (h : Heading) (ls : List Line) where
         (sym (u16-stands when (le16 (h .lines) ++ le32 (h .account) ++ le32 0 ++ e) (h .run) (run-fits (h .interval) (h .date) (h .run) p)))
         (sym (u16-stands (when ++ le16 (h .run)) (le32 (h .account) ++ le32 0 ++ e) (h .lines) (omega (arith, leb-true (h .lines) 2152 (tests .1 .0))))))
 
-  mark-back : marked (statementBytes h ls) ≡ true
+  mark-back : statementMarked (statementBytes h ls) ≡ true
   unfolding statementBytes headingBytes rcs le16 le32
   mark-back = refl
 
@@ -185,6 +185,6 @@ module _ (h : Heading) (ls : List Line) where
       let long = statement-length h ls in
       let count : headingAt s .lines ≡ length ls = ap (λ (x : Heading). x .lines) (heading-back w) ∙ w .count in
       let ends : length s ≡ 24 + headingAt s .lines * 24 = omega arith in
-      let top = all (marked s ∷ headingOk (headingAt s) ∷ eqb (length s) (24 + headingAt s .lines * 24) ∷ []) (mark-back, (ap headingOk (heading-back w) ∙ w .ok, (eq-eqb (length s) (24 + headingAt s .lines * 24) ends, tt))) in
+      let top = all (statementMarked s ∷ headingOk (headingAt s) ∷ eqb (length s) (24 + headingAt s .lines * 24) ∷ []) (mark-back, (ap headingOk (heading-back w) ∙ w .ok, (eq-eqb (length s) (24 + headingAt s .lines * 24) ends, tt))) in
       all (leb 24 (length s) ∷ headed s ∷ _ ∷ [])
       (le-leb 24 (length s) (omega arith), (top, (all-of (lineHolds s) (headingAt s .lines) (λ i l. line-holds v i (rw count at l)), tt)))

@@ -1,3 +1,3 @@
 pub mod Reading
 pub mod Calls
-pub mod Writable
+pub mod Inner

@@ -11,6 +11,7 @@ use lib.ListN.{length}
 use Rattle.ground.specs.Bytes.{byteAt, u16At, u32At, i64At}
 use Rattle.ground.specs.Every.{allOf}
 use Rattle.ground.specs.Sign.{negative}
+use Rattle.ground.specs.Units.{moneyLimit, mostLines}
 use Rattle.calendar.specs.Calendar.{isPeriod}
 use Rattle.sections.specs.Search.{all}
 use Rattle.statement.specs.declared.Heading.{Heading}
@@ -29,8 +30,8 @@ markTests s =
     ∷ eqb (u32At s 20) 0
     ∷ []
 
-abbrev pub marked : List ℕ → Bool
-marked s = allOf (markTests s)
+abbrev pub statementMarked : List ℕ → Bool
+statementMarked s = allOf (markTests s)
 
 -- "interval, date and run as in the book; line count u16; account u32"
 unfoldable pub headingAt : List ℕ → Heading
@@ -38,7 +39,7 @@ headingAt s = record { account = u32At s 16; date = u32At s 8; interval = u16At 
 
 -- "its header fields in range, it has 0 to 2,152 lines, .. account .. from 1"
 abbrev pub headingOk : Heading → Bool
-headingOk h = isPeriod (h .interval) (h .date) (h .run) && leb (h .lines) 2152 && leb 1 (h .account)
+headingOk h = isPeriod (h .interval) (h .date) (h .run) && leb (h .lines) mostLines && leb 1 (h .account)
 
 -- ---- a line
 
@@ -74,18 +75,18 @@ abbrev pub regionsOk : ℕ → ℕ → Bool
 regionsOk part m = leb 1 m && leb m 31 && (leb part 8 || oneBit m)
 
 -- "unit non-zero exactly in parts 3 to 5"
-abbrev pub unitOk : ℕ → ℕ → Bool
-unitOk part unit = cond (leb 3 part && leb part 5) (leb 1 unit) (eqb unit 0)
+abbrev pub unitFieldOk : ℕ → ℕ → Bool
+unitFieldOk part unit = cond (leb 3 part && leb part 5) (leb 1 unit) (eqb unit 0)
 
 -- "amounts within 50,000,000,000 either way and not positive outside parts 3 and 6"
 abbrev pub amountOk : ℕ → ℤ → Bool
-amountOk part z = leb (natAbs z) 50000000000 && (eqb part 3 || eqb part 6 || eqb (natAbs z) 0 || negative z)
+amountOk part z = leb (natAbs z) moneyLimit && (eqb part 3 || eqb part 6 || eqb (natAbs z) 0 || negative z)
 
 -- "ids are from 1, parts are 1 to 10"
 abbrev pub lineOk : Line → Bool
 lineOk l =
     leb 1 (l .id) && leb 1 (l .part) && leb (l .part) 10
-    && regionsOk (l .part) (l .regions) && unitOk (l .part) (l .unit) && amountOk (l .part) (l .amount)
+    && regionsOk (l .part) (l .regions) && unitFieldOk (l .part) (l .unit) && amountOk (l .part) (l .amount)
 
 unfoldable pub lineHolds : List ℕ → ℕ → Bool
 lineHolds s i = spareClear s i && lineOk (lineAt s i)
@@ -94,7 +95,7 @@ lineHolds s i = spareClear s i && lineOk (lineAt s i)
 
 -- "its length is 24 + 24 x lines"
 unfoldable pub headed : List ℕ → Bool
-headed s = marked s && headingOk (headingAt s) && eqb (length s) (24 + headingAt s .lines * 24)
+headed s = statementMarked s && headingOk (headingAt s) && eqb (length s) (24 + headingAt s .lines * 24)
 
 unfoldable pub isStatement : List ℕ → Bool
 isStatement s = leb 24 (length s) && headed s && all (lineHolds s) (headingAt s .lines)

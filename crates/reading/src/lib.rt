@@ -3,7 +3,7 @@ ghost use mathlib.Core.Path.{_≡_};
 ghost use Prim.Native.Nat.{_+_, _*_, _≤_};
 ghost use lib.ListN.{length};
 ghost use Rattle.sections.specs.Search.{all};
-ghost use Rattle.reading.specs.Reading.{marked, headingAt, headingOk, lineFrom, lineAt, spareClear, oneBit, regionsOk, unitOk, amountOk, lineOk, lineHolds, headed, isStatement};
+ghost use Rattle.reading.specs.Reading.{statementMarked, headingAt, headingOk, lineFrom, lineAt, spareClear, oneBit, regionsOk, unitFieldOk, amountOk, lineOk, lineHolds, headed, isStatement};
 ghost use Rattle.reading.specs.Calls.{headingRead, lineRead};
 use ground::read;
 use ground::sign;
@@ -25,7 +25,7 @@ pub enum LineRead {
 // The mark, the version and the reserved bytes.
 fn is_marked(s: &[u8]) -> bool
     requires { ⌜ 24 ≤ length (now s) ⌝ }
-    ensures { λ r. ⌜ r ≡ marked (now (s .entry)) ⌝ }
+    ensures { λ r. ⌜ r ≡ statementMarked (now (s .entry)) ⌝ }
 {
     let mark = b"RCS";
     (s[0] == mark[0])
@@ -91,7 +91,7 @@ fn regions_ok(part: u8, m: u8) -> bool
 }
 
 fn unit_ok(part: u8, unit: u32) -> bool
-    ensures { λ r. ⌜ r ≡ unitOk part unit ⌝ }
+    ensures { λ r. ⌜ r ≡ unitFieldOk part unit ⌝ }
 {
     if (3 <= part) & (part <= 5) {
         1 <= unit
@@ -104,7 +104,7 @@ fn amount_ok(part: u8, amount: i64) -> bool
     ensures { λ r. ⌜ r ≡ amountOk part amount ⌝ }
 {
     let size = sign::size(amount);
-    (size <= 50000000000) & ((part == 3) | (part == 6) | (size == 0) | sign::is_negative(amount))
+    (size <= 50_000_000_000) & ((part == 3) | (part == 6) | (size == 0) | sign::is_negative(amount))
 }
 
 fn line_ok(l: Line) -> bool

@@ -9,7 +9,8 @@ use lib.Dec.{eqb, leb}
 use native.Mathlib.Omega.{arith}
 use Rattle.ground.proofs.Every.{every}
 use Rattle.sections.specs.First.{firstBad}
-use Rattle.sections.specs.Order.{risesBy, Rises, PairsRise}
+use Rattle.sections.specs.Order.{risesBy}
+use Rattle.sections.specs.Inner.Order.{Rises, PairsRise}
 use Rattle.sections.specs.Search.{all}
 use Rattle.sections.specs.Total.{total}
 use Rattle.sections.specs.declared.Checked.the-variants.{Good}
@@ -18,7 +19,7 @@ use Rattle.sections.proofs.Search.{all-each}
 use Rattle.sections.proofs.Order.{rises, rises-step, pairs-rise}
 use Rattle.market.specs.Kinds.{isService, regulates, modeWith}
 use Rattle.records.specs.Rules.{entryTests, entryOk, modeOf, termsOk, noTerms, modeFits, constraintTests, constraintOk, unitTests, unitOk, energyTests, energyOk, factorOf, sharesOk, contractTests, contractOk, constraintBelow, unitBelow, energyBelow, contractBelow}
-use Rattle.records.specs.Facts.{EntryRule, Bare, Terms, ConstraintRule, UnitRule, EnergyRule, ContractRule}
+use Rattle.records.specs.Inner.Facts.{EntryRule, Bare, Terms, ConstraintRule, UnitRule, EnergyRule, ContractRule}
 use Rattle.records.specs.declared.rows.Entry.{Entry}
 use Rattle.records.specs.declared.rows.Constraint.{Constraint}
 use Rattle.records.specs.declared.rows.UnitRow.{UnitRow}
@@ -31,9 +32,9 @@ entry-rule : (r : Entry) → entryOk r ≡ true → EntryRule r
 entry-rule r e =
     let h = every (entryTests r) e in
     record {
-      ace = leb-true (r .ace) 20000000 (h .0);
-      asoe = leb-true (r .asoe) 20000000 (h .1 .0);
-      residual = leb-true (r .residual) 20000000 (h .1 .1 .0);
+      ace = leb-true (r .ace) 20_000_000 (h .0);
+      asoe = leb-true (r .asoe) 20_000_000 (h .1 .0);
+      residual = leb-true (r .residual) 20_000_000 (h .1 .1 .0);
     }
 
 either : (a b : Bool) → (a || b) ≡ true → (a ≡ true) ⊎ (b ≡ true)
@@ -42,13 +43,13 @@ either false b e = inr e
 
 bare-of : (r : Constraint) → noTerms r ≡ true → Bare r
 bare-of r e =
-    let h = every (eqb (r .price) 0 ∷ eqb (r .rcr) 0 ∷ eqb (r .usage) 0 ∷ eqb (r .plus) 0 ∷ eqb (r .minus) 0 ∷ []) e in
+    let h = every (eqb (r .price) 0 ∷ eqb (r .rcr) 0 ∷ eqb (r .usage) 0 ∷ eqb (r .prcf) 0 ∷ eqb (r .nrcf) 0 ∷ []) e in
     record {
       price = eqb-true (r .price) 0 (h .0);
       rcr = eqb-true (r .rcr) 0 (h .1 .0);
       usage = eqb-true (r .usage) 0 (h .1 .1 .0);
-      plus = eqb-true (r .plus) 0 (h .1 .1 .1 .0);
-      minus = eqb-true (r .minus) 0 (h .1 .1 .1 .1 .0);
+      prcf = eqb-true (r .prcf) 0 (h .1 .1 .1 .0);
+      nrcf = eqb-true (r .nrcf) 0 (h .1 .1 .1 .1 .0);
     }
 
 bare-terms : (r : Constraint) → Bare r → Terms r
@@ -58,12 +59,12 @@ bare-terms r h =
 factored-terms : (r : Constraint) → r .mode ≡ 1 → termsOk (modeOf r) ≡ true → Terms r
 unfolding termsOk modeWith
 factored-terms r m e =
-    let h = every (leb (r .price) 2500000 ∷ leb (r .rcr) 10000000 ∷ leb (r .usage) 1000000 ∷ leb (r .price * r .rcr) 6000000000000 ∷ []) (rw m at e) in
+    let h = every (leb (r .price) 2_500_000 ∷ leb (r .rcr) 10_000_000 ∷ leb (r .usage) 1_000_000 ∷ leb (r .price * r .rcr) 6_000_000_000_000 ∷ []) (rw m at e) in
     record {
-      price = leb-true (r .price) 2500000 (h .0);
-      rcr = leb-true (r .rcr) 10000000 (h .1 .0);
-      usage = leb-true (r .usage) 1000000 (h .1 .1 .0);
-      product = leb-true (r .price * r .rcr) 6000000000000 (h .1 .1 .1 .0);
+      price = leb-true (r .price) 2_500_000 (h .0);
+      rcr = leb-true (r .rcr) 10_000_000 (h .1 .0);
+      usage = leb-true (r .usage) 1_000_000 (h .1 .1 .0);
+      product = leb-true (r .price * r .rcr) 6_000_000_000_000 (h .1 .1 .1 .0);
     }
 
 -- what the mode asks, in each of the three modes
@@ -113,10 +114,10 @@ constraint-rule r e =
       mask-low = leb-true 1 (r .mask) (h .1 .1 .0);
       mask-high = leb-true (r .mask) 31 (h .1 .1 .1 .0);
       mode = m .mode;
-      cost = leb-true (r .cost) 50000000000 (h .1 .1 .1 .1 .1 .0);
-      plus = leb-true (r .plus) 1000000 (h .1 .1 .1 .1 .1 .1 .0);
-      minus = leb-true (r .minus) 1000000 (h .1 .1 .1 .1 .1 .1 .1 .0);
-      drcf = leb-true (r .drcf) 1000000 (h .1 .1 .1 .1 .1 .1 .1 .1 .0);
+      cost = leb-true (r .cost) 50_000_000_000 (h .1 .1 .1 .1 .1 .0);
+      prcf = leb-true (r .prcf) 1_000_000 (h .1 .1 .1 .1 .1 .1 .0);
+      nrcf = leb-true (r .nrcf) 1_000_000 (h .1 .1 .1 .1 .1 .1 .1 .0);
+      drcf = leb-true (r .drcf) 1_000_000 (h .1 .1 .1 .1 .1 .1 .1 .1 .0);
       terms = m .terms;
       contingency = m .contingency;
       regulation = m .regulation;
@@ -130,9 +131,9 @@ unit-rule r e =
       constraint = leb-true 1 (r .constraint) (h .0);
       unit = leb-true 1 (r .unit) (h .1 .0);
       account = leb-true 1 (r .account) (h .1 .1 .0);
-      plus = leb-true (r .plus) 1000000 (h .1 .1 .1 .0);
-      minus = leb-true (r .minus) 1000000 (h .1 .1 .1 .1 .0);
-      dcf = leb-true (r .dcf) 1000000 (h .1 .1 .1 .1 .1 .0);
+      pcf = leb-true (r .pcf) 1_000_000 (h .1 .1 .1 .0);
+      ncf = leb-true (r .ncf) 1_000_000 (h .1 .1 .1 .1 .0);
+      dcf = leb-true (r .dcf) 1_000_000 (h .1 .1 .1 .1 .1 .0);
     }
 
 energy-rule : (r : EnergyRow) → energyOk r ≡ true → EnergyRule r
@@ -141,8 +142,8 @@ energy-rule r e =
     record {
       account = leb-true 1 (r .account) (h .0);
       region = leb-true (r .region) 4 (h .1 .0);
-      ace = leb-true (r .ace) 20000000 (h .1 .1 .1 .0);
-      asoe = leb-true (r .asoe) 20000000 (h .1 .1 .1 .1 .0);
+      ace = leb-true (r .ace) 20_000_000 (h .1 .1 .1 .0);
+      asoe = leb-true (r .asoe) 20_000_000 (h .1 .1 .1 .1 .0);
       race = leb-true (r .race) (r .ace) (h .1 .1 .1 .1 .1 .0);
       rasoe = leb-true (r .rasoe) (r .asoe) (h .1 .1 .1 .1 .1 .1 .0);
     }
@@ -151,14 +152,14 @@ contract-rule : (r : Contract) → contractOk r ≡ true → ContractRule r
 unfolding sharesOk
 contract-rule r e =
     let h = every (contractTests r) e in
-    let s = every (all (λ g. leb (factorOf (r .factors) g) 1000000) 5 ∷ eqb (total (factorOf (r .factors)) 5) 1000000 ∷ []) (h .1 .1 .1 .1 .1 .0) in
+    let s = every (all (λ g. leb (factorOf (r .factors) g) 1_000_000) 5 ∷ eqb (total (factorOf (r .factors)) 5) 1_000_000 ∷ []) (h .1 .1 .1 .1 .1 .0) in
     record {
       id = leb-true 1 (r .id) (h .0);
       kind-low = leb-true 1 (r .kind) (h .1 .0);
       kind-high = leb-true (r .kind) 2 (h .1 .1 .0);
-      payment = leb-true (r .payment) 50000000000 (h .1 .1 .1 .1 .0);
-      factor = λ g l. leb-true (factorOf (r .factors) g) 1000000 (all-each (λ g. leb (factorOf (r .factors) g) 1000000) 5 (s .0) g l);
-      whole = eqb-true (total (factorOf (r .factors)) 5) 1000000 (s .1 .0);
+      payment = leb-true (r .payment) 50_000_000_000 (h .1 .1 .1 .1 .0);
+      factor = λ g l. leb-true (factorOf (r .factors) g) 1_000_000 (all-each (λ g. leb (factorOf (r .factors) g) 1_000_000) 5 (s .0) g l);
+      whole = eqb-true (total (factorOf (r .factors)) 5) 1_000_000 (s .1 .0);
     }
 
 -- ---- a section without a refused record keeps the rule at each; row i is its record i

@@ -1,4 +1,3 @@
 pub mod Rows
 pub mod Rules
-pub mod Checks
-pub mod Facts
+pub mod Inner

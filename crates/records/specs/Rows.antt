@@ -1,24 +1,21 @@
 -- Where each record's fields stand: record i of a section, from the section's bytes. 01, The book, gives each record's fields in order.
--- A number that is 0 or below is held by its size; RCF and CF are held as plus - minus.
+-- A number that is 0 or below is held by its size. CF is pcf - ncf and RCF is prcf - nrcf, of which one is 0: ncf and nrcf are the sizes of the
+-- papers' NCF = min(0, CF) and NRCF = min(0, RCF).
 use Prim.Native.Nat.{ℕ, _+_, _*_}
 use mathlib.Core.List.{List, [], _∷_}
 use Rattle.ground.specs.Bytes.{byteAt, u24At, u32At, u64At}
-use Rattle.ground.specs.Sizes.{sizeOf, plusOf, minusOf}
+use Rattle.ground.specs.Sizes.{sizeBelow, aboveOf, belowOf}
 use Rattle.records.specs.declared.rows.Entry.{Entry}
 use Rattle.records.specs.declared.rows.Constraint.{Constraint}
 use Rattle.records.specs.declared.rows.UnitRow.{UnitRow}
 use Rattle.records.specs.declared.rows.EnergyRow.{EnergyRow}
 use Rattle.records.specs.declared.rows.Contract.{Contract}
 
--- the leading number of record i, where a record has this size: a section's records are sorted by it first
-abbrev pub leadAt : List ℕ → ℕ → ℕ → ℕ
-leadAt s size i = u32At s (i * size)
-
 -- "Five region entries, 12 bytes: total ACE, total ASOE, residual total"
 unfoldable pub entryRow : List ℕ → ℕ → Entry
 entryRow s i =
     record {
-      ace = sizeOf (u32At s (i * 12));
+      ace = sizeBelow (u32At s (i * 12));
       asoe = u32At s (i * 12 + 4);
       residual = u32At s (i * 12 + 8);
     }
@@ -36,9 +33,9 @@ constraintRow s i =
       price = u32At s (i * 40 + 16);
       rcr = u32At s (i * 40 + 20);
       usage = u32At s (i * 40 + 24);
-      plus = plusOf (u32At s (i * 40 + 28));
-      minus = minusOf (u32At s (i * 40 + 28));
-      drcf = sizeOf (u32At s (i * 40 + 32));
+      prcf = aboveOf (u32At s (i * 40 + 28));
+      nrcf = belowOf (u32At s (i * 40 + 28));
+      drcf = sizeBelow (u32At s (i * 40 + 32));
       tail = u32At s (i * 40 + 36);
     }
 
@@ -49,9 +46,9 @@ unitRow s i =
       constraint = u32At s (i * 20);
       unit = u32At s (i * 20 + 4);
       account = u32At s (i * 20 + 8);
-      plus = plusOf (u32At s (i * 20 + 12));
-      minus = minusOf (u32At s (i * 20 + 12));
-      dcf = sizeOf (u32At s (i * 20 + 16));
+      pcf = aboveOf (u32At s (i * 20 + 12));
+      ncf = belowOf (u32At s (i * 20 + 12));
+      dcf = sizeBelow (u32At s (i * 20 + 16));
     }
 
 -- "Energy row, 24 bytes: account; region; three reserved bytes; ACE; ASOE; residual ACE; residual ASOE"
@@ -61,9 +58,9 @@ energyRow s i =
       account = u32At s (i * 24);
       region = byteAt s (i * 24 + 4);
       spare = u24At s (i * 24 + 5);
-      ace = sizeOf (u32At s (i * 24 + 8));
+      ace = sizeBelow (u32At s (i * 24 + 8));
       asoe = u32At s (i * 24 + 12);
-      race = sizeOf (u32At s (i * 24 + 16));
+      race = sizeBelow (u32At s (i * 24 + 16));
       rasoe = u32At s (i * 24 + 20);
     }
 

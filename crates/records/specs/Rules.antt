@@ -5,6 +5,7 @@ use mathlib.Core.Bool.{Bool, true, _&&_, _||_, not}
 use lib.Dec.{eqb, leb, ltb}
 use lib.ListN.{getD}
 use Rattle.ground.specs.Every.{allOf}
+use Rattle.ground.specs.Units.{million, moneyLimit, energyLimit, priceLimit, rcrLimit, fppLimit}
 use Rattle.sections.specs.Order.{pairBelow}
 use Rattle.sections.specs.Search.{all}
 use Rattle.sections.specs.Total.{total}
@@ -20,7 +21,7 @@ use Rattle.records.specs.declared.rows.Contract.{Contract}
 -- ---- region entries: "total ACE (-20,000,000 to 0), total ASOE (0 to 20,000,000), residual total (0 to 20,000,000)"
 
 abbrev pub entryTests : Entry → List Bool
-entryTests r = leb (r .ace) 20000000 ∷ leb (r .asoe) 20000000 ∷ leb (r .residual) 20000000 ∷ []
+entryTests r = leb (r .ace) energyLimit ∷ leb (r .asoe) energyLimit ∷ leb (r .residual) energyLimit ∷ []
 
 abbrev pub entryOk : Entry → Bool
 entryOk r = allOf (entryTests r)
@@ -34,13 +35,13 @@ modeOf r = modeWith (r .mode) (r .price) (r .rcr) (r .usage)
 -- "price, to 2,500,000; RCR, to 10,000,000; usage, to 1,000,000"; "Price times RCR is at most 6,000,000,000,000."
 unfoldable pub termsOk : Mode → Bool
 termsOk Contingency = true
-termsOk (Factored price response usage) = leb price 2500000 && leb response 10000000 && leb usage 1000000 && leb (price * response) 6000000000000
+termsOk (Factored price response usage) = leb price priceLimit && leb response rcrLimit && leb usage million && leb (price * response) fppLimit
 termsOk Default = true
 termsOk Unknown = true
 
 -- "price, RCR, usage, RCF all 0"
 abbrev pub noTerms : Constraint → Bool
-noTerms r = eqb (r .price) 0 && eqb (r .rcr) 0 && eqb (r .usage) 0 && eqb (r .plus) 0 && eqb (r .minus) 0
+noTerms r = eqb (r .price) 0 && eqb (r .rcr) 0 && eqb (r .usage) 0 && eqb (r .prcf) 0 && eqb (r .nrcf) 0
 
 -- "Mode 0 (contingency) goes with services 1 to 8 and has price, RCR, usage, RCF, DRCF all 0. Mode 1 (factored) and mode 2 (default)
 -- go with 9 and 10. Mode 2 has price, RCR, usage, RCF all 0"
@@ -59,10 +60,10 @@ constraintTests r =
     ∷ leb 1 (r .mask)
     ∷ leb (r .mask) 31
     ∷ eqb (r .spare) 0
-    ∷ leb (r .cost) 50000000000
-    ∷ leb (r .plus) 1000000
-    ∷ leb (r .minus) 1000000
-    ∷ leb (r .drcf) 1000000
+    ∷ leb (r .cost) moneyLimit
+    ∷ leb (r .prcf) million
+    ∷ leb (r .nrcf) million
+    ∷ leb (r .drcf) million
     ∷ eqb (r .tail) 0
     ∷ termsOk (modeOf r)
     ∷ modeFits r
@@ -78,9 +79,9 @@ unitTests r =
     leb 1 (r .constraint)
     ∷ leb 1 (r .unit)
     ∷ leb 1 (r .account)
-    ∷ leb (r .plus) 1000000
-    ∷ leb (r .minus) 1000000
-    ∷ leb (r .dcf) 1000000
+    ∷ leb (r .pcf) million
+    ∷ leb (r .ncf) million
+    ∷ leb (r .dcf) million
     ∷ []
 
 abbrev pub unitOk : UnitRow → Bool
@@ -94,8 +95,8 @@ energyTests r =
     leb 1 (r .account)
     ∷ leb (r .region) 4
     ∷ eqb (r .spare) 0
-    ∷ leb (r .ace) 20000000
-    ∷ leb (r .asoe) 20000000
+    ∷ leb (r .ace) energyLimit
+    ∷ leb (r .asoe) energyLimit
     ∷ leb (r .race) (r .ace)
     ∷ leb (r .rasoe) (r .asoe)
     ∷ []
@@ -111,7 +112,7 @@ factorOf factors g = getD factors g 0
 
 -- "five regional benefit factors, each at most 1,000,000, together exactly 1,000,000"
 unfoldable pub sharesOk : List ℕ → Bool
-sharesOk factors = all (λ g. leb (factorOf factors g) 1000000) 5 && eqb (total (factorOf factors) 5) 1000000
+sharesOk factors = all (λ g. leb (factorOf factors g) million) 5 && eqb (total (factorOf factors) 5) million
 
 -- "id from 1; kind, 1 ordinary or 2 test; three reserved bytes; payment 0 to 50,000,000,000"
 abbrev pub contractTests : Contract → List Bool
@@ -120,7 +121,7 @@ contractTests r =
     ∷ leb 1 (r .kind)
     ∷ leb (r .kind) 2
     ∷ eqb (r .spare) 0
-    ∷ leb (r .payment) 50000000000
+    ∷ leb (r .payment) moneyLimit
     ∷ sharesOk (r .factors)
     ∷ []
 

@@ -2,9 +2,9 @@
 ghost use mathlib.Core.Path.{_≡_};
 ghost use Prim.Native.Nat.{_*_, _≤_};
 ghost use lib.ListN.{length};
-ghost use Rattle.sections.specs.Order.{Keeps};
-ghost use Rattle.sections.specs.Walk.{Stands, atKey};
-ghost use Rattle.records.specs.Rows.{leadAt};
+ghost use Rattle.sections.specs.Inner.Order.{Keeps};
+ghost use Rattle.sections.specs.Inner.Walk.{Stands, atKey};
+ghost use Rattle.records.specs.Inner.Lead.{leadAt};
 use ground::read;
 
 // The first of n records whose leading number is not below the key. The numbers do not fall, so half of what is left is put aside at each turn.

@@ -13,7 +13,7 @@ pub struct Entry {
     pub residual: u32,
 }
 
-// 40 bytes. RCF is plus - minus, and DRCF is -drcf.
+// 40 bytes. RCF is prcf - nrcf, of which one is 0: nrcf is the size of NRCF, which is min(0, RCF). DRCF is -drcf.
 pub struct Constraint {
     pub id: u32,
     pub service: u8,
@@ -24,19 +24,19 @@ pub struct Constraint {
     pub price: u32,
     pub rcr: u32,
     pub usage: u32,
-    pub plus: u32,
-    pub minus: u32,
+    pub prcf: u32,
+    pub nrcf: u32,
     pub drcf: u32,
     pub tail: u32,
 }
 
-// 20 bytes. CF is plus - minus, and DCF is -dcf.
+// 20 bytes. CF is pcf - ncf, of which one is 0: ncf is the size of NCF, which is min(0, CF). DCF is -dcf.
 pub struct UnitRow {
     pub constraint: u32,
     pub unit: u32,
     pub account: u32,
-    pub plus: u32,
-    pub minus: u32,
+    pub pcf: u32,
+    pub ncf: u32,
     pub dcf: u32,
 }
 
@@ -87,8 +87,8 @@ pub fn constraint_row(s: &[u8], i: usize) -> Constraint
         price: read::u32_at(s, at + 16),
         rcr: read::u32_at(s, at + 20),
         usage: read::u32_at(s, at + 24),
-        plus: read::plus_at(s, at + 28),
-        minus: read::minus_at(s, at + 28),
+        prcf: read::above_at(s, at + 28),
+        nrcf: read::below_at(s, at + 28),
         drcf: read::size_at(s, at + 32),
         tail: read::u32_at(s, at + 36),
     }
@@ -103,8 +103,8 @@ pub fn unit_row(s: &[u8], i: usize) -> UnitRow
         constraint: read::u32_at(s, at),
         unit: read::u32_at(s, at + 4),
         account: read::u32_at(s, at + 8),
-        plus: read::plus_at(s, at + 12),
-        minus: read::minus_at(s, at + 12),
+        pcf: read::above_at(s, at + 12),
+        ncf: read::below_at(s, at + 12),
         dcf: read::size_at(s, at + 16),
     }
 }

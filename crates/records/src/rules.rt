@@ -21,7 +21,7 @@ use market::Service;
 pub(crate) fn entry_ok(r: Entry) -> bool
     ensures { λ b. ⌜ b ≡ entryOk r ⌝ }
 {
-    (r.ace <= 20000000) & (r.asoe <= 20000000) & (r.residual <= 20000000)
+    (r.ace <= 20_000_000) & (r.asoe <= 20_000_000) & (r.residual <= 20_000_000)
 }
 
 // The whole product of two numbers.
@@ -43,16 +43,16 @@ fn terms_ok(mode: Mode) -> bool
     else {
         return true;
     };
-    (price <= 2500000)
-        & (response <= 10000000)
-        & (usage <= 1000000)
-        & (product(price, response) <= 6000000000000)
+    (price <= 2_500_000)
+        & (response <= 10_000_000)
+        & (usage <= 1_000_000)
+        & (product(price, response) <= 6_000_000_000_000)
 }
 
 fn no_terms(r: Constraint) -> bool
     ensures { λ b. ⌜ b ≡ noTerms r ⌝ }
 {
-    (r.price == 0) & (r.rcr == 0) & (r.usage == 0) & (r.plus == 0) & (r.minus == 0)
+    (r.price == 0) & (r.rcr == 0) & (r.usage == 0) & (r.prcf == 0) & (r.nrcf == 0)
 }
 
 // The mode goes with the service, and fields that it has no use for are 0.
@@ -75,10 +75,10 @@ pub(crate) fn constraint_ok(r: Constraint) -> bool
         & (1 <= r.mask)
         & (r.mask <= 31)
         & (r.spare == 0)
-        & (r.cost <= 50000000000)
-        & (r.plus <= 1000000)
-        & (r.minus <= 1000000)
-        & (r.drcf <= 1000000)
+        & (r.cost <= 50_000_000_000)
+        & (r.prcf <= 1_000_000)
+        & (r.nrcf <= 1_000_000)
+        & (r.drcf <= 1_000_000)
         & (r.tail == 0)
         & terms
         & mode_fits(r)
@@ -90,9 +90,9 @@ pub(crate) fn unit_ok(r: UnitRow) -> bool
     (1 <= r.constraint)
         & (1 <= r.unit)
         & (1 <= r.account)
-        & (r.plus <= 1000000)
-        & (r.minus <= 1000000)
-        & (r.dcf <= 1000000)
+        & (r.pcf <= 1_000_000)
+        & (r.ncf <= 1_000_000)
+        & (r.dcf <= 1_000_000)
 }
 
 pub(crate) fn energy_ok(r: EnergyRow) -> bool
@@ -101,8 +101,8 @@ pub(crate) fn energy_ok(r: EnergyRow) -> bool
     (1 <= r.account)
         & (r.region <= Region::VIC1.number)
         & (r.spare == 0)
-        & (r.ace <= 20000000)
-        & (r.asoe <= 20000000)
+        & (r.ace <= 20_000_000)
+        & (r.asoe <= 20_000_000)
         & (r.race <= r.ace)
         & (r.rasoe <= r.asoe)
 }
@@ -117,9 +117,9 @@ fn sum5(a: u32, b: u32, c: u32, d: u32, e: u32) -> u64
 fn shares_ok(f: [u32; 5]) -> bool
     ensures { λ b. ⌜ b ≡ sharesOk f ⌝ }
 {
-    let most = 1000000;
+    let most = 1_000_000;
     let each = (f[0] <= most) & (f[1] <= most) & (f[2] <= most) & (f[3] <= most) & (f[4] <= most);
-    each & (sum5(f[0], f[1], f[2], f[3], f[4]) == 1000000)
+    each & (sum5(f[0], f[1], f[2], f[3], f[4]) == 1_000_000)
 }
 
 pub(crate) fn contract_ok(r: Contract) -> bool
@@ -130,7 +130,7 @@ pub(crate) fn contract_ok(r: Contract) -> bool
         & (1 <= r.kind)
         & (r.kind <= 2)
         & (r.spare == 0)
-        & (r.payment <= 50000000000)
+        & (r.payment <= 50_000_000_000)
         & shares_ok(factors)
 }
 

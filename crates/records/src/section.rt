@@ -4,7 +4,7 @@ ghost use Prim.Native.Nat.{_+_, _*_, _≤_};
 ghost use lib.ListN.{length};
 ghost use Rattle.ground.specs.Bytes.{partFrom};
 ghost use Rattle.sections.specs.First.{firstBad};
-ghost use Rattle.records.specs.Checks.{sizeOf, numberOf, passes, sectionVerdict};
+ghost use Rattle.records.specs.Inner.Checks.{recordSize, refusalOf, passes, sectionVerdict};
 use crate::rows;
 use crate::rules;
 use sections::Checked;
@@ -26,7 +26,7 @@ pub enum Check {
 impl Check {
     // The bytes of one record.
     fn size(self) -> usize
-        ensures { λ r. ⌜ r ≡ sizeOf self ⌝ }
+        ensures { λ r. ⌜ r ≡ recordSize self ⌝ }
     {
         match self {
             Check::EntryFields => 12,
@@ -43,7 +43,7 @@ impl Check {
 
     // The refusal's number: 5 for fields, 6 for order.
     fn number(self) -> u8
-        ensures { λ r. ⌜ r ≡ numberOf self ⌝ }
+        ensures { λ r. ⌜ r ≡ refusalOf self ⌝ }
     {
         match self {
             Check::EntryFields => 5,
@@ -60,7 +60,7 @@ impl Check {
 }
 
 fn test(k: Check, s: &[u8], i: usize) -> bool
-    requires { ⌜ (i + 1) * sizeOf k ≤ length (now s) ⌝ }
+    requires { ⌜ (i + 1) * recordSize k ≤ length (now s) ⌝ }
     ensures { λ b. ⌜ b ≡ passes (now (s .entry)) k i ⌝ }
 {
     match k {
@@ -78,7 +78,7 @@ fn test(k: Check, s: &[u8], i: usize) -> bool
 
 // The first of the n records at the front of s that the check refuses.
 fn first_bad(k: Check, s: &[u8], n: usize) -> Checked
-    requires { ⌜ n * sizeOf k ≤ length (now s) ⌝ }
+    requires { ⌜ n * recordSize k ≤ length (now s) ⌝ }
     ensures { λ r. ⌜ r ≡ firstBad (passes (now (s .entry)) k) n ⌝ }
 {
     let mut i = 0;
@@ -93,7 +93,7 @@ fn first_bad(k: Check, s: &[u8], n: usize) -> Checked
 
 // The verdict on the n records of the section that starts at an offset of the book.
 pub fn section(k: Check, book: &[u8], offset: usize, n: usize) -> Verdict
-    requires { ⌜ (offset ≤ 65536) × ((n ≤ 65536) × (offset + n * sizeOf k ≤ length (now book))) ⌝ }
+    requires { ⌜ (offset ≤ 65_536) × ((n ≤ 65_536) × (offset + n * recordSize k ≤ length (now book))) ⌝ }
     ensures { λ v. ⌜ v ≡ sectionVerdict k offset n (partFrom offset (now (book .entry))) ⌝ }
 {
     let found = first_bad(k, &book[offset..], n);

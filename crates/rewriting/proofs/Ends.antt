@@ -6,7 +6,8 @@ use mathlib.Core.Bool.{Bool, true, false, not}
 use native.Mathlib.Omega.{arith}
 use borrow.Author.Tests.{not-true, not-false}
 use lib.ListN.{length, length-append}
-use Rattle.ground.specs.Put.{put, Wrote}
+use Rattle.ground.specs.Put.{put}
+use Rattle.ground.specs.Inner.Put.{Wrote}
 use Rattle.ground.proofs.Put.{wrote-length}
 use Rattle.statement.specs.Statement.{headingBytes, linesBytes, statementBytes}
 use Rattle.statement.specs.Lent.{refuses, gives, Lent}

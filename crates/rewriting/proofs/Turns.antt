@@ -5,7 +5,8 @@ use mathlib.Core.List.{List, [], _∷_, _++_}
 use native.Mathlib.Omega.{arith}
 use native.Mathlib.Numerals.{add-one}
 use lib.ListN.{length}
-use Rattle.ground.specs.Put.{put, Wrote}
+use Rattle.ground.specs.Put.{put}
+use Rattle.ground.specs.Inner.Put.{Wrote}
 use Rattle.ground.proofs.Put.{wrote-length}
 use Rattle.statement.specs.Statement.{lineBytes, linesBytes}
 use Rattle.statement.specs.declared.Line.{Line}

@@ -5,20 +5,20 @@ use mathlib.Core.Bool.{Bool, true, false, cond}
 use mathlib.Core.List.{List, [], _∷_}
 use borrow.Author.Tests.{eqb-false}
 use lib.Dec.{eqb}
-use Rattle.ground.specs.Each.{Each}
+use Rattle.ground.specs.Inner.Each.{Each}
 use Rattle.ground.proofs.Each.{each-append, each-choice}
 use Rattle.records.specs.Rules.{factorOf}
 use Rattle.factors.specs.Naming.{keyOf}
-use Rattle.totals.specs.Divisors.{divisorOf}
-use Rattle.totals.specs.Totals.{entryOf}
+use Rattle.totals.specs.Divisors.{overRegions}
+use Rattle.totals.specs.Inner.Totals.{entryOf}
 use Rattle.totals.specs.declared.entries.Totals.{Totals}
-use Rattle.amounts.specs.Pools.{poolsOf, residualOf, halvesOf}
+use Rattle.amounts.specs.Pools.{poolsOf, residualPools, halvesOf}
 use Rattle.accounts.specs.Rows.{joined}
 use Rattle.accounts.proofs.Joined.{each-joined}
 use Rattle.book.specs.Book.{Book}
 use Rattle.statement.specs.declared.Line.{Line}
 use Rattle.lines.specs.Lines.{contingencyLine, unitLines, restLines, aceLine, asoeLine, regionLines}
-use Rattle.walk.specs.Walks.{ownLines, unitLinesAt, conLines, conLinesAt, contractLinesAt, bookLines}
+use Rattle.walk.specs.Inner.Walks.{ownLines, unitLinesAt, conLines, conLinesAt, contractLinesAt, bookLines}
 
 each-unless : (P : Line → Type 0) (t : Bool) (ls : List Line) → (t ≡ false → Each P ls) → Each P (cond t [] ls)
 each-unless P true ls h = tt
@@ -27,9 +27,9 @@ each-unless P false ls h = h refl
 module _ (P : Line → Type 0) (B : Book) (own : Totals) where
   -- of constraint j's lines, and of contract k's in region g
   pub record EachKind : Type 0 where
-    pub contingency : (j : ℕ) → j < B .header .constraints → P (contingencyLine (B .constraint j) (divisorOf (entryOf own) (B .constraint j)) (divisorOf (B .entry) (B .constraint j)))
+    pub contingency : (j : ℕ) → j < B .header .constraints → P (contingencyLine (B .constraint j) (overRegions (entryOf own) (B .constraint j)) (overRegions (B .entry) (B .constraint j)))
     pub units : (j : ℕ) → j < B .header .constraints → (u : ℕ) → u < B .header .units → Each P (unitLines (B .constraint j) (poolsOf (B .constraint j)) (B .unit u))
-    pub rest : (j : ℕ) → j < B .header .constraints → Each P (restLines (B .constraint j) (residualOf (B .constraint j) (poolsOf (B .constraint j))) (divisorOf (entryOf own) (B .constraint j)) (divisorOf (B .entry) (B .constraint j)))
+    pub rest : (j : ℕ) → j < B .header .constraints → Each P (restLines (B .constraint j) (residualPools (B .constraint j) (poolsOf (B .constraint j))) (overRegions (entryOf own) (B .constraint j)) (overRegions (B .entry) (B .constraint j)))
     pub region : (k : ℕ) → k < B .header .contracts → (g : ℕ) → g < 5 → (factorOf (B .contract k .factors) g ≡ 0 → ⊥) → Each P (aceLine (B .contract k .id) g (halvesOf (B .contract k .payment) (factorOf (B .contract k .factors) g)) (entryOf own g .ace) (B .entry g .ace) ∷ asoeLine (B .contract k .id) g (halvesOf (B .contract k .payment) (factorOf (B .contract k .factors) g)) (entryOf own g .asoe) (B .entry g .asoe) ∷ [])
 
   module _ (h : EachKind) (account : ℕ) where

@@ -8,21 +8,21 @@ use borrow.Author.Tests.{ltb-true, ltb-false, le-ltb}
 use lib.Dec.{eqb, ltb}
 use lib.ListN.{length, length-append}
 use native.Mathlib.Omega.{arith}
-use Rattle.ground.specs.Put.{Wrote}
+use Rattle.ground.specs.Inner.Put.{Wrote}
 use Rattle.sections.specs.declared.Verdict.{Verdict}
 use Rattle.sections.specs.declared.Verdict.the-variants.{Accepted, Refused}
-use Rattle.totals.specs.Totals.{entryOf}
+use Rattle.totals.specs.Inner.Totals.{entryOf}
 use Rattle.totals.specs.declared.entries.Totals.{Totals}
 use Rattle.book.specs.Header.{headerOf}
 use Rattle.book.specs.declared.header.Header.{Header}
 use Rattle.book.specs.Book.{Book, bookIn}
-use Rattle.book.specs.Facts.{Laid}
+use Rattle.book.specs.Inner.Facts.{Laid}
 use Rattle.book.specs.Table.{verdict}
-use Rattle.book.specs.Accepted.{Within, Promise, AcceptedBook}
+use Rattle.book.specs.Inner.Accepted.{AtMostEntry, Promise, AcceptedBook}
 use Rattle.book.proofs.Promise.{accepted}
 use Rattle.accounts.specs.Rows.{rowsOf, keep, none, joined}
 use Rattle.accounts.specs.Account.{publicOf, rowsOfAccount, unknown}
-use Rattle.accounts.specs.Held.{HeldIs}
+use Rattle.accounts.specs.Inner.Held.{HeldIs}
 use Rattle.accounts.specs.declared.Held.{Held}
 use Rattle.accounts.proofs.Own.{own-within, held-own, held-unknown}
 use Rattle.statement.specs.Lent.{Lent}
@@ -32,11 +32,11 @@ use Rattle.statement.specs.declared.Written.the-variants as written
 use Rattle.statement.proofs.Lent.{lent-refused}
 use Rattle.statement.proofs.Lines.{statement-length}
 use Rattle.lines.specs.Limit.{anyOver}
-use Rattle.settlement.specs.Settle.{linesOf, headingOf, statementOf, settled, ifAccepted, outcome}
-use Rattle.walk.specs.Walks.{conLinesAt, contractLinesAt, bookLines}
-use Rattle.settlement.specs.Owned.{wholeOf, Fits, Owned}
-use Rattle.count.specs.Counts.{BookCounted}
-use Rattle.settlement.specs.Limits.{bookOver}
+use Rattle.settlement.specs.Settle.{linesOf, headingOf, statementOf, settled, outcomeIf, outcome}
+use Rattle.walk.specs.Inner.Walks.{conLinesAt, contractLinesAt, bookLines}
+use Rattle.settlement.specs.Inner.Owned.{wholeOf, Fits, Owned}
+use Rattle.count.specs.Inner.Counts.{BookCounted}
+use Rattle.settlement.specs.Inner.Limits.{bookOver}
 use Rattle.settlement.proofs.Whole.{settled-unknown, settled-over, lent-short, lent-written}
 use Rattle.settlement.proofs.UnderLimit.{over-is}
 use Rattle.settlement.proofs.Link.{lines-link}
@@ -103,7 +103,7 @@ module _ (B : Book) (account : ℕ) (p : Promise B) {held : Held} (f : HeldIs (B
   pub own-of : unknown (rowsOfAccount B account) ≡ false → Owned B account (held .own)
   own-of k =
       let same = held-own B f in
-      let w : (g : ℕ) → g < 5 → Within (B .entry g) (entryOf (held .own) g .ace) (entryOf (held .own) g .asoe) (entryOf (held .own) g .residual) = λ g h. subst (λ (z : Entry). Within (B .entry g) (z .ace) (z .asoe) (z .residual)) (sym (same g h)) (own-within p account g h) in
+      let w : (g : ℕ) → g < 5 → AtMostEntry (B .entry g) (entryOf (held .own) g .ace) (entryOf (held .own) g .asoe) (entryOf (held .own) g .residual) = λ g h. subst (λ (z : Entry). AtMostEntry (B .entry g) (z .ace) (z .asoe) (z .residual)) (sym (same g h)) (own-within p account g h) in
       record {
         known = k;
         lines = lines-link B account (held .own) same;
@@ -132,7 +132,7 @@ module _ (B : Book) (account : ℕ) (p : Promise B) {held : Held} (f : HeldIs (B
 
 module _ (b : List ℕ) (account : ℕ) {v : Verdict} (q : v ≡ verdict b) where
   pub end-refused : (l : List ℕ) {number place : ℕ} → v ≡ Refused number place → Lent (outcome b account) l (written.Refused number place) l
-  unfolding outcome ifAccepted
+  unfolding outcome outcomeIf
   end-refused l e = lent-refused _ _ _ l (rw (sym q ∙ e))
 
   module _ (e : v ≡ Accepted) where
@@ -146,5 +146,5 @@ module _ (b : List ℕ) (account : ℕ) {v : Verdict} (q : v ≡ verdict b) wher
     promised-in i = rw i (given .promise)
 
     pub end-settled : {h : Header} {l : List ℕ} {r : Written} {d : List ℕ} → h ≡ headerOf b → Lent (settled account (publicOf (bookIn b h)) (rowsOfAccount (bookIn b h) account)) l r d → Lent (outcome b account) l r d
-    unfolding outcome ifAccepted
+    unfolding outcome outcomeIf
     end-settled i h = rw (sym q ∙ e) (rw i at h)

@@ -6,26 +6,26 @@ use native.Mathlib.Omega.{arith}
 use native.Mathlib.Nat.{le-trans}
 use Rattle.sections.proofs.Total.{total-bound, total-under}
 use Rattle.market.specs.Kinds.{raises, regulates, bitSet}
-use Rattle.records.specs.Facts.{EntryRule}
+use Rattle.records.specs.Inner.Facts.{EntryRule}
 use Rattle.records.specs.declared.rows.Entry.{Entry}
 use Rattle.records.specs.declared.rows.Constraint.{Constraint}
 use Rattle.factors.specs.Naming.{idOf, keyOf}
 use Rattle.factors.proofs.Said.{names-of}
-use Rattle.totals.specs.Divisors.{basisOf, shareOf, divisorOf}
-use Rattle.totals.specs.Totals.{entryOf}
+use Rattle.totals.specs.Divisors.{basisOf, countedIn, overRegions}
+use Rattle.totals.specs.Inner.Totals.{entryOf}
 use Rattle.totals.specs.declared.entries.Totals.{Totals}
 use Rattle.totals.proofs.Turns.{share-small}
 use Rattle.book.specs.Book.{Book}
-use Rattle.book.specs.Accepted.{Within, Promise}
-use Rattle.lines.specs.Lines.{Shared}
-use Rattle.walk.specs.Walks.{Ready, Payable}
+use Rattle.book.specs.Inner.Accepted.{AtMostEntry, Promise}
+use Rattle.lines.specs.Inner.Shared.{Shared}
+use Rattle.walk.specs.Inner.Walks.{Ready, ContractSettles}
 use Rattle.walk.proofs.Order.{rises-once}
-use Rattle.count.specs.Counts.{Countable}
+use Rattle.count.specs.Inner.Counts.{Countable}
 
 -- ---- an account's energy in a region
 
 -- it is as small as the region's
-within-rule : (e x : Entry) → Within e (x .ace) (x .asoe) (x .residual) → EntryRule e → EntryRule x
+within-rule : (e x : Entry) → AtMostEntry e (x .ace) (x .asoe) (x .residual) → EntryRule e → EntryRule x
 within-rule e x w h =
     record {
       ace = le-trans (w .ace) (h .ace);
@@ -34,8 +34,8 @@ within-rule e x w h =
     }
 
 -- and so is what a constraint counts of it
-within-share : (r : Constraint) (e x : Entry) (g : ℕ) → Within e (x .ace) (x .asoe) (x .residual) → shareOf r x g ≤ shareOf r e g
-unfolding shareOf basisOf
+within-share : (r : Constraint) (e x : Entry) (g : ℕ) → AtMostEntry e (x .ace) (x .asoe) (x .residual) → countedIn r x g ≤ countedIn r e g
+unfolding countedIn basisOf
 within-share r e x g w = by (bitSet (r .mask) g) (regulates (r .service)) (raises (r .service))
   where
     by : (a b c : Bool) → cond a (cond b (x .residual) (cond c (x .asoe) (x .ace))) 0 ≤ cond a (cond b (e .residual) (cond c (e .asoe) (e .ace))) 0
@@ -65,14 +65,14 @@ module _ (B : Book) (h : Promise B) where
         bare = bare-of;
       }
 
-  module _ (own : Totals) (own-within : (g : ℕ) → g < 5 → Within (B .entry g) (entryOf own g .ace) (entryOf own g .asoe) (entryOf own g .residual)) where
+  module _ (own : Totals) (own-within : (g : ℕ) → g < 5 → AtMostEntry (B .entry g) (entryOf own g .ace) (entryOf own g .asoe) (entryOf own g .residual)) where
     -- the account's energy over a constraint's regions is part of a total that is not 0
-    pub shared-of : (j : ℕ) → j < B .header .constraints → Shared (divisorOf (entryOf own) (B .constraint j)) (divisorOf (B .entry) (B .constraint j))
+    pub shared-of : (j : ℕ) → j < B .header .constraints → Shared (overRegions (entryOf own) (B .constraint j)) (overRegions (B .entry) (B .constraint j))
     shared-of j l =
         record {
-          part = total-under (λ g. shareOf (B .constraint j) (entryOf own g) g) (λ g. shareOf (B .constraint j) (B .entry g) g) 5 (λ g b. within-share (B .constraint j) (B .entry g) (entryOf own g) g (own-within g b));
+          part = total-under (λ g. countedIn (B .constraint j) (entryOf own g) g) (λ g. countedIn (B .constraint j) (B .entry g) g) 5 (λ g b. within-share (B .constraint j) (B .entry g) (entryOf own g) g (own-within g b));
           above = h .divisor j l;
-          below = omega (arith, total-bound (λ g. shareOf (B .constraint j) (B .entry g) g) 20000000 5 (λ g b. share-small (B .constraint j) (B .entry g) g (h .fields .entries g b)));
+          below = omega (arith, total-bound (λ g. countedIn (B .constraint j) (B .entry g) g) 20_000_000 5 (λ g b. share-small (B .constraint j) (B .entry g) g (h .fields .entries g b)));
         }
 
     -- all that settling its constraints rests on
@@ -90,7 +90,7 @@ module _ (B : Book) (h : Promise B) where
         }
 
     -- all that settling contract k rests on
-    pub payable-of : (k : ℕ) → k < B .header .contracts → Payable (B .entry) (B .contract k) own
+    pub payable-of : (k : ℕ) → k < B .header .contracts → ContractSettles (B .entry) (B .contract k) own
     payable-of k l =
         record {
           rule = h .fields .contracts k l;
@@ -98,5 +98,5 @@ module _ (B : Book) (h : Promise B) where
           asoe = λ g b d. part (own-within g b .asoe) (h .funded k l g b d .asoe) (h .fields .entries g b .asoe);
         }
       where
-        part : {x y : ℕ} → x ≤ y → 0 < y → y ≤ 20000000 → Shared x y
+        part : {x y : ℕ} → x ≤ y → 0 < y → y ≤ 20_000_000 → Shared x y
         part a b c = record { part = a; above = b; below = omega arith }

@@ -9,8 +9,8 @@ use Rattle.records.specs.declared.rows.Entry.{Entry}
 use Rattle.records.specs.declared.rows.Constraint.{Constraint}
 use Rattle.records.specs.declared.rows.UnitRow.{UnitRow}
 use Rattle.records.specs.declared.rows.Contract.{Contract}
-use Rattle.totals.specs.Divisors.{divisorOf}
-use Rattle.totals.specs.Totals.{entryOf}
+use Rattle.totals.specs.Divisors.{overRegions}
+use Rattle.totals.specs.Inner.Totals.{entryOf}
 use Rattle.totals.specs.declared.entries.Totals.{Totals}
 use Rattle.totals.proofs.Turns.{divisor-same}
 use Rattle.book.specs.Book.{Book}
@@ -22,7 +22,7 @@ use Rattle.accounts.proofs.Lists.{joined-rows, joined-keep}
 use Rattle.statement.specs.declared.Line.{Line}
 use Rattle.lines.specs.Lines.{unitLines, regionLines}
 use Rattle.settlement.specs.Settle.{entryIn, ofConstraint, constraintLines, contractLines, linesOf}
-use Rattle.walk.specs.Walks.{ownLines, unitLinesAt, conLines, conLinesAt, contractLinesAt, bookLines}
+use Rattle.walk.specs.Inner.Walks.{ownLines, unitLinesAt, conLines, conLinesAt, contractLinesAt, bookLines}
 
 -- ---- the five entries
 
@@ -55,7 +55,7 @@ units-link unit m account r =
 -- ---- all lines
 
 module _ (B : Book) (account : ℕ) (own : Totals) (e : (g : ℕ) → g < 5 → entryOf own g ≡ ownEnergy (rowsOfAccount B account .energies) g) where
-  con-link : (r : Constraint) → constraintLines (entryIn (rowsOf (B .entry) 5)) (ownEnergy (rowsOfAccount B account .energies)) (rowsOfAccount B account .units) r ≡ conLines (B .unit) (B .header .units) account r (divisorOf (entryOf own) r) (divisorOf (B .entry) r)
+  con-link : (r : Constraint) → constraintLines (entryIn (rowsOf (B .entry) 5)) (ownEnergy (rowsOfAccount B account .energies)) (rowsOfAccount B account .units) r ≡ conLines (B .unit) (B .header .units) account r (overRegions (entryOf own) r) (overRegions (B .entry) r)
   unfolding constraintLines conLines rowsOfAccount
   con-link r =
       rw (

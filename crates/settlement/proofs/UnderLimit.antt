@@ -9,7 +9,7 @@ use Rattle.ground.specs.Bytes.{partFrom}
 use Rattle.sections.specs.Search.{some}
 use Rattle.sections.proofs.Search.{some-none}
 use Rattle.records.specs.Rows.{constraintRow, contractRow}
-use Rattle.records.specs.Facts.{ConstraintRule}
+use Rattle.records.specs.Inner.Facts.{ConstraintRule}
 use Rattle.records.specs.declared.rows.Constraint.{Constraint}
 use Rattle.totals.specs.declared.entries.Totals.{Totals}
 use Rattle.amounts.specs.Pools.{poolsOf}
@@ -17,11 +17,11 @@ use Rattle.amounts.proofs.Sizes.{pools-small, residual-small, halves-small}
 use Rattle.book.specs.Book.{Book, bookIn}
 use Rattle.book.specs.Header.{contractsFrom}
 use Rattle.book.specs.declared.header.Header.{Header}
-use Rattle.book.specs.Accepted.{Promise}
+use Rattle.book.specs.Inner.Accepted.{Promise}
 use Rattle.lines.specs.Limit.{anyOver}
 use Rattle.lines.proofs.Limit.{Within, none-over, contingency-within, unit-within, rest-within, halves-within}
-use Rattle.walk.specs.Walks.{bookLines, Walkable}
-use Rattle.settlement.specs.Limits.{constraintOver, contractOver, bookOver}
+use Rattle.walk.specs.Inner.Walks.{bookLines, Walkable}
+use Rattle.settlement.specs.Inner.Limits.{constraintOver, contractOver, bookOver}
 use Rattle.settlement.proofs.EachLine.{EachKind, each-line}
 
 -- a loop over records that looks for one that passes a test

@@ -5,7 +5,8 @@ use mathlib.Core.Bool.{true, false}
 use mathlib.Core.List.{List}
 use lib.ListN.{length, length-append}
 use native.Mathlib.Omega.{arith}
-use Rattle.ground.specs.Put.{put, Wrote}
+use Rattle.ground.specs.Put.{put}
+use Rattle.ground.specs.Inner.Put.{Wrote}
 use Rattle.ground.proofs.Put.{wrote-front}
 use Rattle.totals.specs.declared.entries.Totals.{Totals}
 use Rattle.accounts.specs.Account.{Public, Rows, publicOf, unknown}
@@ -17,11 +18,11 @@ use Rattle.statement.specs.declared.Line.{Line}
 use Rattle.statement.specs.declared.Written.the-variants.{Length, Refused}
 use Rattle.statement.proofs.Lines.{heading-length, lines-length, statement-length}
 use Rattle.statement.proofs.Lent as lent
-use Rattle.lines.specs.Emitted.{Emitted}
+use Rattle.lines.specs.Inner.Emitted.{Emitted}
 use Rattle.lines.specs.Limit.{anyOver}
 use Rattle.settlement.specs.Settle.{linesOf, headingOf, statementOf, settled}
-use Rattle.walk.specs.Walks.{bookLines}
-use Rattle.settlement.specs.Owned.{wholeOf}
+use Rattle.walk.specs.Inner.Walks.{bookLines}
+use Rattle.settlement.specs.Inner.Owned.{wholeOf}
 
 -- ---- written
 

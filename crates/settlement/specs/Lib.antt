@@ -1,3 +1,2 @@
 pub mod Settle
-pub mod Owned
-pub mod Limits
+pub mod Inner

@@ -10,10 +10,10 @@ use Rattle.records.specs.declared.rows.Entry.{Entry}
 use Rattle.records.specs.declared.rows.Constraint.{Constraint}
 use Rattle.records.specs.declared.rows.UnitRow.{UnitRow}
 use Rattle.records.specs.declared.rows.Contract.{Contract}
-use Rattle.totals.specs.Divisors.{divisorOf}
+use Rattle.totals.specs.Divisors.{overRegions}
 use Rattle.book.specs.Book.{bookOf}
 use Rattle.book.specs.Table.{verdict}
-use Rattle.amounts.specs.Pools.{poolsOf, residualOf}
+use Rattle.amounts.specs.Pools.{poolsOf, residualPools}
 use Rattle.accounts.specs.Rows.{joined, concatMap}
 use Rattle.accounts.specs.Account.{Public, Rows, publicOf, rowsOfAccount, ownEnergy, unknown}
 use Rattle.statement.specs.Statement.{statementBytes}
@@ -38,8 +38,8 @@ ofConstraint r q = cond (eqb (q .constraint) (r .id)) (unitLines r (poolsOf r) q
 -- "for mode 0 one line, 1 or 2; else own units in row order (3, 4, 5; mode 2 only 5), then 6, 7, 8 (mode 2 only 8)"
 unfoldable pub constraintLines : (ℕ → Entry) → (ℕ → Entry) → List UnitRow → Constraint → List Line
 constraintLines total own units r =
-    cond (eqb (r .mode) 0) (contingencyLine r (divisorOf own r) (divisorOf total r) ∷ [])
-    (concatMap (ofConstraint r) units ++ restLines r (residualOf r (poolsOf r)) (divisorOf own r) (divisorOf total r))
+    cond (eqb (r .mode) 0) (contingencyLine r (overRegions own r) (overRegions total r) ∷ [])
+    (concatMap (ofConstraint r) units ++ restLines r (residualPools r (poolsOf r)) (overRegions own r) (overRegions total r))
 
 -- "Then contracts, each benefiting region rising, 9 then 10."
 unfoldable pub contractLines : (ℕ → Entry) → (ℕ → Entry) → Contract → List Line
@@ -68,9 +68,9 @@ settled account public rows =
     (cond (anyOver (linesOf public rows)) (refuses 12 0) (gives (statementOf account public rows)))
 
 -- "Numbers 1 to 10 come from every call on a book."
-unfoldable pub ifAccepted : Verdict → Outcome → Outcome
-ifAccepted Accepted o = o
-ifAccepted (Refused number place) o = refuses number place
+unfoldable pub outcomeIf : Verdict → Outcome → Outcome
+outcomeIf Accepted o = o
+outcomeIf (Refused number place) o = refuses number place
 
 unfoldable pub outcome : List ℕ → ℕ → Outcome
-outcome b account = ifAccepted (verdict b) (settled account (publicOf (bookOf b)) (rowsOfAccount (bookOf b) account))
+outcome b account = outcomeIf (verdict b) (settled account (publicOf (bookOf b)) (rowsOfAccount (bookOf b) account))

@@ -5,11 +5,11 @@ ghost use Prim.Native.Nat.{ℕ, _*_, _≤_, _<_};
 ghost use lib.ListN.{length};
 ghost use Rattle.sections.specs.Search.{some};
 ghost use Rattle.records.specs.Rows.{constraintRow, contractRow};
-ghost use Rattle.records.specs.Facts.{ConstraintRule};
+ghost use Rattle.records.specs.Inner.Facts.{ConstraintRule};
 ghost use Rattle.book.specs.Book.{bookIn};
-ghost use Rattle.book.specs.Facts.{Laid};
-ghost use Rattle.book.specs.Accepted.{Promise};
-ghost use Rattle.settlement.specs.Limits.{constraintOver, contractOver, bookOver};
+ghost use Rattle.book.specs.Inner.Facts.{Laid};
+ghost use Rattle.book.specs.Inner.Accepted.{Promise};
+ghost use Rattle.settlement.specs.Inner.Limits.{constraintOver, contractOver, bookOver};
 use amounts::pools;
 use book::header::Header;
 use records::rows;
@@ -20,7 +20,7 @@ fn constraint_over(r: Constraint) -> bool
     requires { ⌜ ConstraintRule r ⌝ }
     ensures { λ b. ⌜ b ≡ constraintOver r ⌝ }
 {
-    (50000000000 < r.cost) | (50000000000 < pools::pools_of(r).fpp)
+    (50_000_000_000 < r.cost) | (50_000_000_000 < pools::pools_of(r).fpp)
 }
 
 fn constraints(cons: &[u8], n: usize) -> bool
@@ -44,7 +44,7 @@ fn contracts(contracts: &[u8], n: usize) -> bool
     let mut over = false;
     let mut i = 0;
     while i < n {
-        over = over | (50000000000 < rows::contract_row(contracts, i).payment);
+        over = over | (50_000_000_000 < rows::contract_row(contracts, i).payment);
         i += 1;
     }
     over

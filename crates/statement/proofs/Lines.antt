@@ -7,7 +7,7 @@ use native.Mathlib.Omega.{arith}
 use native.Mathlib.Nat.{mod-eq-of-lt}
 use lib.ListN.{length, length-append}
 use Rattle.ground.specs.Le.{bytesOf, le16, le32, le64, int64}
-use Rattle.ground.specs.Put.{Wrote}
+use Rattle.ground.specs.Inner.Put.{Wrote}
 use Rattle.ground.proofs.Le.{bytes-above}
 use Rattle.ground.proofs.Put.{wrote-none, wrote-more}
 use Rattle.statement.specs.declared.Heading.{Heading}
@@ -42,10 +42,10 @@ one-byte x h = rw (mod-eq-of-lt h)
 byte-above : (n x r : ℕ) → x < 256 → bytesOf (1 + n) (x + 256 * r) ≡ x ∷ bytesOf n r
 byte-above n x r h = bytes-above 1 n x r h ∙ ap (λ (l : List ℕ). l ++ bytesOf n r) (one-byte x h)
 
-pub names-bytes : (id p r : ℕ) → id < 2 ^ 32 → p < 256 → r < 256 → le64 (id + 4294967296 * p + 1099511627776 * r) ≡ le32 id ++ (p ∷ []) ++ (r ∷ []) ++ le16 0
+pub names-bytes : (id p r : ℕ) → id < 2 ^ 32 → p < 256 → r < 256 → le64 (id + 4_294_967_296 * p + 1_099_511_627_776 * r) ≡ le32 id ++ (p ∷ []) ++ (r ∷ []) ++ le16 0
 unfolding le16 le32 le64
 names-bytes id p r h k l =
-    let e : id + 4294967296 * p + 1099511627776 * r ≡ id + 256 ^ 4 * (p + 256 * (r + 256 * 0)) = omega arith in
+    let e : id + 4_294_967_296 * p + 1_099_511_627_776 * r ≡ id + 256 ^ 4 * (p + 256 * (r + 256 * 0)) = omega arith in
     ap (bytesOf 8) e
     ∙ bytes-above 4 4 id (p + 256 * (r + 256 * 0)) h
     ∙ ap (λ (l : List ℕ). bytesOf 4 id ++ l) (byte-above 3 p (r + 256 * 0) k ∙ ap (λ (l : List ℕ). p ∷ l) (byte-above 2 r 0 l))

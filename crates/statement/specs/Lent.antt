@@ -1,5 +1,5 @@
--- What a call that writes a statement answers, and what the lent buffer holds then. 01, Refusals: "A refusal answers its number and place, .. and the lent buffer
--- holds what it held. Success writes exactly the statement at the front and answers its length; later bytes stay."
+-- What a call that writes a statement answers, and what the lent buffer holds then. 01, Refusals: "A refusal answers its number and place, ..
+-- and the lent buffer holds what it held. Success writes exactly the statement at the front and answers its length; later bytes stay."
 use Prim.Native.Nat.{ℕ}
 use mathlib.Core.Path.{_≡_}
 use mathlib.Core.Bool.{cond}

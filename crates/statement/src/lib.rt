@@ -6,7 +6,8 @@ ghost use mathlib.Core.List.{[], _∷_, _++_};
 ghost use Prim.Native.Nat.{_+_, _≤_};
 ghost use lib.ListN.{length};
 ghost use Rattle.ground.specs.Le.{le16, le32};
-ghost use Rattle.ground.specs.Put.{put, Wrote};
+ghost use Rattle.ground.specs.Put.{put};
+ghost use Rattle.ground.specs.Inner.Put.{Wrote};
 ghost use Rattle.statement.specs.Statement.{rcs, headingBytes, lineBytes};
 
 // What a statement's header says.
@@ -85,7 +86,7 @@ fn put_names(buf: &mut [u8], at: usize, id: u32, part: u8, regions: u8)
     write::put_u64(
         buf,
         at,
-        (id as u64) + 4294967296 * (part as u64) + 1099511627776 * (regions as u64),
+        (id as u64) + 4_294_967_296 * (part as u64) + 1_099_511_627_776 * (regions as u64),
     );
 }
 

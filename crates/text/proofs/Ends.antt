@@ -9,7 +9,7 @@ use borrow.Author.Tests.{leb-true, le-leb, lt-ltb, le-ltb}
 use lib.Dec.{eqb, leb}
 use lib.ListN.{length, take, length-take}
 use Rattle.ground.specs.Bytes.{u32At, partFrom, part, AreBytes}
-use Rattle.ground.specs.Put.{Wrote}
+use Rattle.ground.specs.Inner.Put.{Wrote}
 use Rattle.ground.proofs.Every.{every}
 use Rattle.ground.proofs.Put.{wrote-more, wrote-length}
 use Rattle.calendar.specs.Calendar.{isPeriod}
@@ -18,13 +18,13 @@ use Rattle.statement.specs.declared.Heading.{Heading}
 use Rattle.statement.specs.declared.Written.{Written}
 use Rattle.statement.specs.declared.Written.the-variants.{Length, Refused}
 use Rattle.statement.proofs.Lent.{lent-front}
-use Rattle.reading.specs.Reading.{headingAt, headingOk, linesIn, marked, headed, isStatement}
+use Rattle.reading.specs.Reading.{headingAt, headingOk, linesIn, statementMarked, headed, isStatement}
 use Rattle.reading.proofs.Whole.{headed-length}
 use Rattle.reading.proofs.Ends.{statement-long, statement-headed}
 use Rattle.settlement.specs.Settle.{outcome}
 use Rattle.trips.proofs.Trip.{written-and-read}
 use Rattle.text.specs.Listing.{headingText, linesText, refusalText, statementText, outcomeText, listingOf}
-use Rattle.text.specs.Said.{Said}
+use Rattle.text.specs.Inner.Said.{Said}
 use Rattle.text.proofs.Lengths.{heading-short, lines-short}
 
 -- ---- a statement
@@ -34,17 +34,17 @@ module _ (s : List ℕ) (q : isStatement s ≡ true) where
   unfolding headed
   few-lines =
       let h = headingAt s in
-      let ok = every (marked s ∷ headingOk h ∷ eqb (length s) (24 + h .lines * 24) ∷ []) (statement-headed s q) .1 .0 in
+      let ok = every (statementMarked s ∷ headingOk h ∷ eqb (length s) (24 + h .lines * 24) ∷ []) (statement-headed s q) .1 .0 in
       leb-true (h .lines) 2152 (every (isPeriod (h .interval) (h .date) (h .run) ∷ leb (h .lines) 2152 ∷ leb 1 (h .account) ∷ []) ok .1 .0)
 
   -- 24 bytes, and 24 for each of at most 2,152 lines
-  pub statement-short : length s ≤ 51672
+  pub statement-short : length s ≤ 51_672
   statement-short = omega (arith, headed-length s (statement-headed s q), few-lines)
 
   pub header-lies : 24 ≤ length s
   header-lies = statement-long s q
 
-  module _ (bytes : AreBytes s) (h : Heading) (g : h ≡ headingAt s) (l : List ℕ) (long : 114128 ≤ length l) where
+  module _ (bytes : AreBytes s) (h : Heading) (g : h ≡ headingAt s) (l : List ℕ) (long : 114_128 ≤ length l) where
     pub heading-room : length (headingText h) ≤ length l
     heading-room = rw g (omega (arith, heading-short s bytes))
 
@@ -73,7 +73,7 @@ unfolding answerFor
 own-refusal (refuses m p) l number place few e = let same : Refused number place ≡ Refused m p = e in cc
 own-refusal (gives xs) l number place few e = absurd (apart (length xs) number place (rw (le-leb (length xs) (length l) (few xs refl)) at e))
 
-module _ (b : List ℕ) (account : ℕ) (bytes : AreBytes b) (small : account < 2 ^ 32) {l : List ℕ} {r : Written} {x : List ℕ} (h : Lent (outcome b account) l r x) (room : 51672 ≡ length l) where
+module _ (b : List ℕ) (account : ℕ) (bytes : AreBytes b) (small : account < 2 ^ 32) {l : List ℕ} {r : Written} {x : List ℕ} (h : Lent (outcome b account) l r x) (room : 51_672 ≡ length l) where
   short : (xs : List ℕ) → outcome b account ≡ gives xs → length xs ≤ length l
   short xs e = omega (arith, statement-short xs (written-and-read b account xs bytes small e .accepted))
 

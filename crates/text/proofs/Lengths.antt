@@ -8,7 +8,7 @@ use mir.Facts.{sfits-toZ, fits-natAbs}
 use lib.IntN.{natAbs}
 use lib.ListN.{length, length-append}
 use Rattle.ground.specs.Bytes.{byteAt, u16At, u32At, u64At, i64At, AreBytes}
-use Rattle.ground.specs.Put.{Wrote}
+use Rattle.ground.specs.Inner.Put.{Wrote}
 use Rattle.ground.proofs.Put.{wrote-length}
 use Rattle.ground.proofs.Back.{u16-small, u32-small, u64-small}
 use Rattle.decimal.specs.Decimal.{decimalOf}
@@ -17,7 +17,7 @@ use Rattle.decimal.proofs.Rooms.{Space, space-front, dollars-short}
 use Rattle.reading.specs.Reading.{headingAt, lineFrom, lineAt, linesIn}
 use Rattle.statement.specs.declared.Line.{Line}
 use Rattle.text.specs.Listing.{refusalPieces, refusalText, headingText, lineText, linesText}
-use Rattle.text.specs.Said.{Said}
+use Rattle.text.specs.Inner.Said.{Said}
 
 -- lines with one more at the end
 pub text-more : (ls : List Line) (y : Line) → linesText (ls ++ (y ∷ [])) ≡ linesText ls ++ lineText y

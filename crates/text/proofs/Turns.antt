@@ -6,7 +6,7 @@ use native.Mathlib.Omega.{arith}
 use native.Mathlib.Numerals.{add-one}
 use lib.ListN.{length}
 use Rattle.ground.specs.Bytes.{AreBytes}
-use Rattle.ground.specs.Put.{Wrote}
+use Rattle.ground.specs.Inner.Put.{Wrote}
 use Rattle.ground.proofs.Put.{wrote-none, wrote-more, wrote-length}
 use Rattle.statement.specs.declared.Line.{Line}
 use Rattle.reading.specs.Reading.{lineAt, linesIn}

@@ -1,5 +1,6 @@
--- The listing program's text, from the bytes of its standard input. 01, Worked interval: "The listing program reads four little-endian bytes of account and then a
--- book from standard input. For account 7 it prints the header, then id, part, regions, unit, dollars to four places, any minus first". Each line ends in a line feed.
+-- The listing program's text, from the bytes of its standard input. 01, Worked interval: "The listing program reads four little-endian bytes
+-- of account and then a book from standard input. For account 7 it prints the header, then id, part, regions, unit, dollars to four places,
+-- any minus first". Each line ends in a line feed.
 use Prim.Native.Nat.{ℕ}
 use mathlib.Core.Bool.{cond}
 use mathlib.Core.List.{List, [], _∷_, _++_}

@@ -4,10 +4,10 @@ ghost use mathlib.Core.Path.{_≡_};
 ghost use mathlib.Core.Bool.{true};
 ghost use Prim.Native.Nat.{_+_, _*_, _≤_};
 ghost use lib.ListN.{length};
-ghost use Rattle.ground.specs.Put.{Wrote};
+ghost use Rattle.ground.specs.Inner.Put.{Wrote};
 ghost use Rattle.reading.specs.Reading.{headingAt, linesIn, isStatement};
 ghost use Rattle.settlement.specs.Settle.{outcome};
-ghost use Rattle.text.specs.Said.{Said};
+ghost use Rattle.text.specs.Inner.Said.{Said};
 ghost use Rattle.text.specs.Listing.{refusalText, headingText, lineText, linesText, statementText, outcomeText, listingOf};
 use ground::read;
 use statement::Heading;
@@ -68,7 +68,7 @@ fn put_lines(text: &mut [u8], at: usize, s: &[u8], n: usize) -> usize
 // A statement: its header, and all its lines.
 pub fn put_statement(text: &mut [u8], s: &[u8]) -> usize
     requires { ⌜ isStatement (now s) ≡ true ⌝ }
-    requires { ⌜ 114128 ≤ length (now text) ⌝ }
+    requires { ⌜ 114_128 ≤ length (now text) ⌝ }
     ensures { λ r. ⌜ Said (now (text .entry)) (statementText (headingAt (now (s .entry))) (linesIn (now (s .entry)) (headingAt (now (s .entry)) .lines))) (now (text .exit)) r ⌝ }
 {
     let h = reading::heading_at(s);
@@ -78,15 +78,15 @@ pub fn put_statement(text: &mut [u8], s: &[u8]) -> usize
 }
 
 // A buffer for the longest statement: 24 bytes, and 24 for each of 2,152 lines.
-fn room() -> [u8; 51672]
-    ensures { λ r. ⌜ 51672 ≡ length r ⌝ }
+fn room() -> [u8; 51_672]
+    ensures { λ r. ⌜ 51_672 ≡ length r ⌝ }
 {
-    [0; 51672]
+    [0; 51_672]
 }
 
 // What is said of an account's statement from a book. The buffer holds any statement, so that 13 is never said.
 fn put_outcome(text: &mut [u8], account: u32, book: &[u8]) -> usize
-    requires { ⌜ 114128 ≤ length (now text) ⌝ }
+    requires { ⌜ 114_128 ≤ length (now text) ⌝ }
     ensures { λ r. ⌜ Said (now (text .entry)) (outcomeText (outcome (now (book .entry)) account)) (now (text .exit)) r ⌝ }
 {
     let mut buffer = room();
@@ -98,7 +98,7 @@ fn put_outcome(text: &mut [u8], account: u32, book: &[u8]) -> usize
 
 // The whole text, from the bytes of standard input: four of account, and then a book.
 pub fn put_listing(text: &mut [u8], input: &[u8]) -> usize
-    requires { ⌜ 114128 ≤ length (now text) ⌝ }
+    requires { ⌜ 114_128 ≤ length (now text) ⌝ }
     ensures { λ r. ⌜ Said (now (text .entry)) (listingOf (now (input .entry))) (now (text .exit)) r ⌝ }
 {
     if input.len() < 4 {

@@ -18,32 +18,34 @@ use Rattle.records.specs.declared.rows.Entry.{Entry}
 use Rattle.records.specs.declared.rows.Constraint.{Constraint}
 use Rattle.records.specs.declared.rows.EnergyRow.{EnergyRow}
 use Rattle.records.specs.declared.rows.Contract.{Contract}
-use Rattle.totals.specs.Sums.{regionOf, aceOf, asoeOf, residualOf, entryTests, entryIs, entryAt, SumsTo}
-use Rattle.totals.specs.Divisors.{divisorOf, constraintDivides, fundedIn, contractDivides, Funded}
+use Rattle.totals.specs.Sums.{regionOf, aceOf, asoeOf, teOf, sumTests, entryIs, entryHasSums}
+use Rattle.totals.specs.Inner.Facts.{SumsTo}
+use Rattle.totals.specs.Divisors.{overRegions, constraintDivides, fundedIn, contractDivides}
+use Rattle.totals.specs.Inner.Facts.{Funded}
 
 -- ---- check 9
 
 sums-to : (e : Entry) (a b c : ℕ) → entryIs e a b c ≡ true → SumsTo e a b c
 sums-to e a b c q =
-    let h = every (entryTests e a b c) q in
+    let h = every (sumTests e a b c) q in
     record {
       ace = eqb-true (e .ace) a (h .0);
       asoe = eqb-true (e .asoe) b (h .1 .0);
       residual = eqb-true (e .residual) c (h .1 .1 .0);
     }
 
-pub entry-of : (energy : ℕ → EnergyRow) (n : ℕ) (entry : ℕ → Entry) → firstBad (entryAt energy n entry) 5 ≡ Good → (g : ℕ) → g < 5 → SumsTo (entry g) (totalOf (regionOf energy) g (aceOf energy) n) (totalOf (regionOf energy) g (asoeOf energy) n) (totalOf (regionOf energy) g (residualOf energy) n)
-unfolding entryAt
-entry-of energy n entry k g l = sums-to (entry g) _ _ _ (first-each (entryAt energy n entry) 5 k g l)
+pub entry-of : (energy : ℕ → EnergyRow) (n : ℕ) (entry : ℕ → Entry) → firstBad (entryHasSums energy n entry) 5 ≡ Good → (g : ℕ) → g < 5 → SumsTo (entry g) (totalOf (regionOf energy) g (aceOf energy) n) (totalOf (regionOf energy) g (asoeOf energy) n) (totalOf (regionOf energy) g (teOf energy) n)
+unfolding entryHasSums
+entry-of energy n entry k g l = sums-to (entry g) _ _ _ (first-each (entryHasSums energy n entry) 5 k g l)
 
 -- ---- check 10
 
 above : (n : ℕ) → not (eqb n 0) ≡ true → 0 < n
 above n h = ⊎-elim (λ (e : n ≡ 0). absurd (eqb-false n 0 (not-true (eqb n 0) h) e)) (λ q. q) (eq-zero-or-pos n)
 
-pub divisor-of : (entry : ℕ → Entry) (con : ℕ → Constraint) (n : ℕ) → firstBad (constraintDivides entry con) n ≡ Good → (j : ℕ) → j < n → 0 < divisorOf entry (con j)
+pub divisor-of : (entry : ℕ → Entry) (con : ℕ → Constraint) (n : ℕ) → firstBad (constraintDivides entry con) n ≡ Good → (j : ℕ) → j < n → 0 < overRegions entry (con j)
 unfolding constraintDivides
-divisor-of entry con n k j l = above (divisorOf entry (con j)) (first-each (constraintDivides entry con) n k j l)
+divisor-of entry con n k j l = above (overRegions entry (con j)) (first-each (constraintDivides entry con) n k j l)
 
 funded : (entry : ℕ → Entry) (f g : ℕ) → (f ≡ 0 → ⊥) → fundedIn entry f g ≡ true → Funded (entry g)
 funded entry f g d e =

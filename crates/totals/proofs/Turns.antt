@@ -10,14 +10,14 @@ use lib.Seq.{ext-getD}
 use Rattle.sections.proofs.Total.{total-same}
 use Rattle.sections.proofs.Groups.{split-none, split-more, split-bound}
 use Rattle.market.specs.Kinds.{raises, regulates, bitSet}
-use Rattle.records.specs.Facts.{EntryRule, EnergyRule}
+use Rattle.records.specs.Inner.Facts.{EntryRule, EnergyRule}
 use Rattle.records.specs.declared.rows.Entry.{Entry}
 use Rattle.records.specs.declared.rows.Constraint.{Constraint}
 use Rattle.records.specs.declared.rows.EnergyRow.{EnergyRow}
-use Rattle.totals.specs.Sums.{entryIs, entryAt}
-use Rattle.totals.specs.Turns.{TotalsOf}
-use Rattle.totals.specs.Divisors.{basisOf, shareOf, divisorOf, constraintDivides}
-use Rattle.totals.specs.Totals.{Five, entryOf}
+use Rattle.totals.specs.Sums.{entryIs, entryHasSums}
+use Rattle.totals.specs.Inner.Turns.{TotalsOf}
+use Rattle.totals.specs.Divisors.{basisOf, countedIn, overRegions, constraintDivides}
+use Rattle.totals.specs.Inner.Totals.{Five, entryOf}
 use Rattle.totals.specs.declared.entries.Totals.{Totals}
 
 -- no second totals have the same entry in each of the five regions
@@ -54,28 +54,28 @@ module _ (energy : ℕ → EnergyRow) where
 
   -- the sums of at most 1,024 rows are small
   pub record Small (t : Totals) (g : ℕ) : Type 0 where
-    pub ace : getD (t .ace) g 0 ≤ 50000000000
-    pub asoe : getD (t .asoe) g 0 ≤ 50000000000
-    pub residual : getD (t .residual) g 0 ≤ 50000000000
+    pub ace : getD (t .ace) g 0 ≤ 50_000_000_000
+    pub asoe : getD (t .asoe) g 0 ≤ 50_000_000_000
+    pub residual : getD (t .residual) g 0 ≤ 50_000_000_000
 
   pub totals-small : (n i : ℕ) {t : Totals} → n ≤ 1024 → ((i : ℕ) → i < n → EnergyRule (energy i)) → i ≤ n → TotalsOf energy i t → (g : ℕ) → g < 5 → Small t g
   totals-small n i few q l h g b =
       record {
-        ace = omega (arith, split-bound _ _ 5 40000000 n (λ j k. omega (arith, q j k .ace)) i (h .ace) l g b);
-        asoe = omega (arith, split-bound _ _ 5 40000000 n (λ j k. omega (arith, q j k .asoe)) i (h .asoe) l g b);
-        residual = omega (arith, split-bound _ _ 5 40000000 n (λ j k. let a = q j k in omega arith) i (h .residual) l g b);
+        ace = omega (arith, split-bound _ _ 5 40_000_000 n (λ j k. omega (arith, q j k .ace)) i (h .ace) l g b);
+        asoe = omega (arith, split-bound _ _ 5 40_000_000 n (λ j k. omega (arith, q j k .asoe)) i (h .asoe) l g b);
+        residual = omega (arith, split-bound _ _ 5 40_000_000 n (λ j k. let a = q j k in omega arith) i (h .residual) l g b);
       }
 
   -- the test of an entry against the sums is the rule
-  pub entry-is-at : (n : ℕ) (entry : ℕ → Entry) (g : ℕ) {e : Entry} {t : Totals} {b : Bool} → TotalsOf energy n t → g < 5 → e ≡ entry g → b ≡ entryIs e (getD (t .ace) g 0) (getD (t .asoe) g 0) (getD (t .residual) g 0) → b ≡ entryAt energy n entry g
-  unfolding entryAt
+  pub entry-is-at : (n : ℕ) (entry : ℕ → Entry) (g : ℕ) {e : Entry} {t : Totals} {b : Bool} → TotalsOf energy n t → g < 5 → e ≡ entry g → b ≡ entryIs e (getD (t .ace) g 0) (getD (t .asoe) g 0) (getD (t .residual) g 0) → b ≡ entryHasSums energy n entry g
+  unfolding entryHasSums
   entry-is-at n entry g h l e q = q ∙ rw (h .ace .each g l, h .asoe .each g l, h .residual .each g l, e)
 
-pub share-small : (r : Constraint) (e : Entry) (g : ℕ) → EntryRule e → shareOf r e g ≤ 20000000
-unfolding shareOf basisOf
+pub share-small : (r : Constraint) (e : Entry) (g : ℕ) → EntryRule e → countedIn r e g ≤ 20_000_000
+unfolding countedIn basisOf
 share-small r e g h = by (bitSet (r .mask) g) (regulates (r .service)) (raises (r .service))
   where
-    by : (x y z : Bool) → cond x (cond y (e .residual) (cond z (e .asoe) (e .ace))) 0 ≤ 20000000
+    by : (x y z : Bool) → cond x (cond y (e .residual) (cond z (e .asoe) (e .ace))) 0 ≤ 20_000_000
     by true true z = h .residual
     by true false true = h .asoe
     by true false false = h .ace
@@ -91,18 +91,18 @@ five P a b c d e (suc (suc (suc (suc zero)))) l = e
 five P a b c d e (suc (suc (suc (suc (suc g))))) l = absurd (omega arith)
 
 -- a total to divide by depends on the five entries alone
-pub divisor-same : (f h : ℕ → Entry) (r : Constraint) → ((g : ℕ) → g < 5 → f g ≡ h g) → divisorOf f r ≡ divisorOf h r
-divisor-same f h r e = total-same _ _ 5 (λ g l. ap (λ (x : Entry). shareOf r x g) (e g l))
+pub divisor-same : (f h : ℕ → Entry) (r : Constraint) → ((g : ℕ) → g < 5 → f g ≡ h g) → overRegions f r ≡ overRegions h r
+divisor-same f h r e = total-same _ _ 5 (λ g l. ap (λ (x : Entry). countedIn r x g) (e g l))
 
 -- totals that are the entries of a book
 module _ (t : Totals) (entry : ℕ → Entry) (e : (g : ℕ) → g < 5 → entryOf t g ≡ entry g) where
   pub totals-rule : ((g : ℕ) → g < 5 → EntryRule (entry g)) → (g : ℕ) → g < 5 → EntryRule (entryOf t g)
   totals-rule h g l = subst EntryRule (sym (e g l)) (h g l)
 
-  pub divisor-read : (r : Constraint) {x : ℕ} → x ≡ divisorOf (entryOf t) r → x ≡ divisorOf entry r
+  pub divisor-read : (r : Constraint) {x : ℕ} → x ≡ overRegions (entryOf t) r → x ≡ overRegions entry r
   divisor-read r q = q ∙ divisor-same (entryOf t) entry r e
 
   -- the test of check 10
-  pub divides-at : (con : ℕ → Constraint) (j : ℕ) {r : Constraint} {x : ℕ} → r ≡ con j → x ≡ divisorOf (entryOf t) r → not (eqb x 0) ≡ constraintDivides entry con j
+  pub divides-at : (con : ℕ → Constraint) (j : ℕ) {r : Constraint} {x : ℕ} → r ≡ con j → x ≡ overRegions (entryOf t) r → not (eqb x 0) ≡ constraintDivides entry con j
   unfolding constraintDivides
   divides-at con j {r} d q = rw (divisor-read r q, d)

@@ -1,6 +1,5 @@
 -- Check 10. 01, Refusals, 10: "a total to divide by is zero". "It applies though the pool is 0."
-use Prim.Native.Nat.{ℕ, _<_}
-use mathlib.Core.Path.{_≡_}
+use Prim.Native.Nat.{ℕ}
 use mathlib.Core.Bool.{Bool, _&&_, _||_, not, cond}
 use lib.Dec.{eqb}
 use Rattle.sections.specs.Search.{all}
@@ -16,15 +15,16 @@ unfoldable pub basisOf : Constraint → Entry → ℕ
 basisOf r e = cond (regulates (r .service)) (e .residual) (cond (raises (r .service)) (e .asoe) (e .ace))
 
 -- region g counts where its bit is set
-unfoldable pub shareOf : Constraint → Entry → ℕ → ℕ
-shareOf r e g = cond (bitSet (r .mask) g) (basisOf r e) 0
+unfoldable pub countedIn : Constraint → Entry → ℕ → ℕ
+countedIn r e g = cond (bitSet (r .mask) g) (basisOf r e) 0
 
--- the total that a constraint divides by
-abbrev pub divisorOf : (ℕ → Entry) → Constraint → ℕ
-divisorOf entry r = total (λ g. shareOf r (entry g) g) 5
+-- a constraint's energy over its regions: of the region entries it is the total that the constraint divides by, of an account's own energies the
+-- part of it that is the account's
+abbrev pub overRegions : (ℕ → Entry) → Constraint → ℕ
+overRegions entry r = total (λ g. countedIn r (entry g) g) 5
 
 unfoldable pub constraintDivides : (ℕ → Entry) → (ℕ → Constraint) → ℕ → Bool
-constraintDivides entry con j = not (eqb (divisorOf entry (con j)) 0)
+constraintDivides entry con j = not (eqb (overRegions entry (con j)) 0)
 
 -- "contract, total ACE or ASOE in a region whose benefit factor isn't 0"
 abbrev pub fundedIn : (ℕ → Entry) → ℕ → ℕ → Bool
@@ -32,8 +32,3 @@ fundedIn entry factor g = eqb factor 0 || (not (eqb (entry g .ace) 0) && not (eq
 
 unfoldable pub contractDivides : (ℕ → Entry) → (ℕ → Contract) → ℕ → Bool
 contractDivides entry contract k = all (λ g. fundedIn entry (factorOf (contract k .factors) g) g) 5
-
--- what the rule says of a region that benefits
-pub record Funded (e : Entry) : Type 0 where
-  pub ace : 0 < e .ace
-  pub asoe : 0 < e .asoe

@@ -1,4 +1,3 @@
 pub mod Sums
-pub mod Turns
 pub mod Divisors
-pub mod Totals
+pub mod Inner

@@ -1,6 +1,5 @@
 -- Check 9. 01, Refusals, 9: "a region entry differs from its rows' sums".
 use Prim.Native.Nat.{ℕ, _+_}
-use mathlib.Core.Path.{_≡_}
 use mathlib.Core.Bool.{Bool}
 use mathlib.Core.List.{List, [], _∷_}
 use lib.Dec.{eqb}
@@ -20,25 +19,19 @@ abbrev pub asoeOf : (ℕ → EnergyRow) → ℕ → ℕ
 asoeOf energy i = energy i .asoe
 
 -- "|residual ACE| + |residual ASOE|"
-abbrev pub residualOf : (ℕ → EnergyRow) → ℕ → ℕ
-residualOf energy i = energy i .race + energy i .rasoe
+abbrev pub teOf : (ℕ → EnergyRow) → ℕ → ℕ
+teOf energy i = energy i .race + energy i .rasoe
 
-abbrev pub entryTests : Entry → ℕ → ℕ → ℕ → List Bool
-entryTests e ace asoe residual = eqb (e .ace) ace ∷ eqb (e .asoe) asoe ∷ eqb (e .residual) residual ∷ []
+abbrev pub sumTests : Entry → ℕ → ℕ → ℕ → List Bool
+sumTests e ace asoe residual = eqb (e .ace) ace ∷ eqb (e .asoe) asoe ∷ eqb (e .residual) residual ∷ []
 
 abbrev pub entryIs : Entry → ℕ → ℕ → ℕ → Bool
-entryIs e ace asoe residual = allOf (entryTests e ace asoe residual)
+entryIs e ace asoe residual = allOf (sumTests e ace asoe residual)
 
 -- entry g has the sums over those of the n energy rows that are in region g
-unfoldable pub entryAt : (ℕ → EnergyRow) → ℕ → (ℕ → Entry) → ℕ → Bool
-entryAt energy n entry g =
+unfoldable pub entryHasSums : (ℕ → EnergyRow) → ℕ → (ℕ → Entry) → ℕ → Bool
+entryHasSums energy n entry g =
     entryIs (entry g)
     (totalOf (regionOf energy) g (aceOf energy) n)
     (totalOf (regionOf energy) g (asoeOf energy) n)
-    (totalOf (regionOf energy) g (residualOf energy) n)
-
--- what the rule says
-pub record SumsTo (e : Entry) (x y z : ℕ) : Type 0 where
-  pub ace : e .ace ≡ x
-  pub asoe : e .asoe ≡ y
-  pub residual : e .residual ≡ z
+    (totalOf (regionOf energy) g (teOf energy) n)

@@ -5,9 +5,9 @@ ghost use lib.ListN.{length};
 ghost use Rattle.sections.specs.First.{firstBad};
 ghost use Rattle.records.specs.Rows.{entryRow, constraintRow, contractRow};
 ghost use Rattle.records.specs.Rules.{factorOf};
-ghost use Rattle.records.specs.Facts.{EntryRule};
-ghost use Rattle.totals.specs.Totals.{entryOf};
-ghost use Rattle.totals.specs.Divisors.{basisOf, shareOf, divisorOf, constraintDivides, fundedIn, contractDivides};
+ghost use Rattle.records.specs.Inner.Facts.{EntryRule};
+ghost use Rattle.totals.specs.Inner.Totals.{entryOf};
+ghost use Rattle.totals.specs.Divisors.{basisOf, countedIn, overRegions, constraintDivides, fundedIn, contractDivides};
 use crate::entries::Totals;
 use market::Region;
 use market::Service;
@@ -37,7 +37,7 @@ fn basis(r: Constraint, t: Totals, g: usize) -> u64
 // What region g counts for over a constraint's regions.
 fn counted(r: Constraint, t: Totals, g: usize) -> u64
     requires { ⌜ g < 5 ⌝ }
-    ensures { λ x. ⌜ x ≡ shareOf r (entryOf t g) g ⌝ }
+    ensures { λ x. ⌜ x ≡ countedIn r (entryOf t g) g ⌝ }
 {
     if Region::of(g as u8).is_in(r.mask) {
         basis(r, t, g)
@@ -49,7 +49,7 @@ fn counted(r: Constraint, t: Totals, g: usize) -> u64
 // The energy over a constraint's regions, of the kind that its cost is shared by: an account's, or that of all.
 pub fn over_regions(t: Totals, r: Constraint) -> u64
     requires { ⌜ ((g : ℕ) → g < 5 → EntryRule (entryOf t g)) ⌝ }
-    ensures { λ x. ⌜ x ≡ divisorOf (entryOf t) r ⌝ }
+    ensures { λ x. ⌜ x ≡ overRegions (entryOf t) r ⌝ }
 {
     let mut sum: u64 = 0;
     let mut g = 0;
@@ -107,7 +107,7 @@ pub fn totals_of(regions: &[u8]) -> Totals
 pub fn divisor(regions: &[u8], r: Constraint) -> u64
     requires { ⌜ 60 ≤ length (now regions) ⌝ }
     requires { ⌜ ((g : ℕ) → g < 5 → EntryRule (entryRow (now regions) g)) ⌝ }
-    ensures { λ x. ⌜ x ≡ divisorOf (entryRow (now (regions .entry))) r ⌝ }
+    ensures { λ x. ⌜ x ≡ overRegions (entryRow (now (regions .entry))) r ⌝ }
 {
     over_regions(totals_of(regions), r)
 }

@@ -2,11 +2,12 @@
 ghost use mathlib.Core.Path.{_≡_};
 ghost use Prim.Native.Nat.{ℕ, _+_, _*_, _≤_, _<_};
 ghost use lib.ListN.{length, getD, set};
+ghost use Rattle.ground.specs.Units.{moneyLimit};
 ghost use Rattle.sections.specs.First.{firstBad};
 ghost use Rattle.records.specs.Rows.{entryRow, energyRow};
-ghost use Rattle.records.specs.Facts.{EnergyRule};
-ghost use Rattle.totals.specs.Sums.{entryIs, entryAt};
-ghost use Rattle.totals.specs.Turns.{TotalsOf};
+ghost use Rattle.records.specs.Inner.Facts.{EnergyRule};
+ghost use Rattle.totals.specs.Sums.{entryIs, entryHasSums};
+ghost use Rattle.totals.specs.Inner.Turns.{TotalsOf};
 use market::Region;
 use records::rows;
 use records::rows::Entry;
@@ -21,7 +22,7 @@ pub struct Totals {
 
 // One more number in region g's sum.
 pub fn bump(a: &mut [u64; 5], g: usize, x: u64)
-    requires { ⌜ (g < 5) × ((getD (now a) g 0 ≤ 50000000000) × (x ≤ 40000000)) ⌝ }
+    requires { ⌜ (g < 5) × ((getD (now a) g 0 ≤ moneyLimit) × (x ≤ 40_000_000)) ⌝ }
     ensures { λ _. ⌜ now (a .exit) ≡ set (now (a .entry)) g (getD (now (a .entry)) g 0 + x) ⌝ }
 {
     a[g] = a[g] + x;
@@ -67,7 +68,7 @@ pub fn entry_is(e: Entry, t: Totals, g: usize) -> bool
 pub fn entries(regions: &[u8], energy: &[u8], n: usize) -> Checked
     requires { ⌜ (60 ≤ length (now regions)) × ((n * 24 ≤ length (now energy)) × (n ≤ 1024)) ⌝ }
     requires { ⌜ ((i : ℕ) → i < n → EnergyRule (energyRow (now energy) i)) ⌝ }
-    ensures { λ r. ⌜ r ≡ firstBad (entryAt (energyRow (now (energy .entry))) n (entryRow (now (regions .entry)))) 5 ⌝ }
+    ensures { λ r. ⌜ r ≡ firstBad (entryHasSums (energyRow (now (energy .entry))) n (entryRow (now (regions .entry)))) 5 ⌝ }
 {
     let t = by_region(energy, n);
     let mut g = 0;

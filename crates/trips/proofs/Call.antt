@@ -15,21 +15,21 @@ use Rattle.sections.specs.declared.Verdict.the-variants.{Accepted, Refused}
 use Rattle.sections.proofs.Search.{some-found}
 use Rattle.records.specs.Rows.{constraintRow, unitRow, contractRow}
 use Rattle.records.specs.declared.rows.EnergyRow.{EnergyRow}
-use Rattle.totals.specs.Totals.{entryOf}
+use Rattle.totals.specs.Inner.Totals.{entryOf}
 use Rattle.totals.specs.declared.entries.Totals.{Totals}
 use Rattle.book.specs.Header.{headerOf, unitsFrom, contractsFrom}
 use Rattle.book.specs.Book.{Book, bookOf}
 use Rattle.book.specs.Table.{verdict}
-use Rattle.book.specs.Accepted.{Promise}
+use Rattle.book.specs.Inner.Accepted.{Promise}
 use Rattle.accounts.specs.Rows.{rowsOf, keep, none}
 use Rattle.accounts.specs.Account.{publicOf, rowsOfAccount, ownEnergy, unknown}
-use Rattle.accounts.specs.Held.{HeldIs}
+use Rattle.accounts.specs.Inner.Held.{HeldIs}
 use Rattle.accounts.specs.declared.Held.{Held}
 use Rattle.accounts.proofs.Lists.{some-rows}
 use Rattle.statement.specs.Lent.{Outcome, refuses, gives}
 use Rattle.lines.specs.Limit.{anyOver}
-use Rattle.settlement.specs.Settle.{linesOf, statementOf, settled, ifAccepted, outcome}
-use Rattle.settlement.specs.Owned.{Owned}
+use Rattle.settlement.specs.Settle.{linesOf, statementOf, settled, outcomeIf, outcome}
+use Rattle.settlement.specs.Inner.Owned.{Owned}
 use Rattle.settlement.proofs.Ends.{own-of}
 use Rattle.trips.proofs.Due.{Narrow}
 
@@ -39,8 +39,8 @@ apart : (number place : ℕ) (xs : List ℕ) → refuses number place ≡ gives 
 apart number place xs e = let z : _≡_ {A = ℕ} 0 1 = cc in omega arith
 
 -- 1 to 10
-verdict-gives : (v : Verdict) (o : Outcome) (xs : List ℕ) → ifAccepted v o ≡ gives xs → (v ≡ Accepted) × (o ≡ gives xs)
-unfolding ifAccepted
+verdict-gives : (v : Verdict) (o : Outcome) (xs : List ℕ) → outcomeIf v o ≡ gives xs → (v ≡ Accepted) × (o ≡ gives xs)
+unfolding outcomeIf
 verdict-gives Accepted o xs e = (refl, e)
 verdict-gives (Refused number place) o xs e = absurd (apart number place xs e)
 

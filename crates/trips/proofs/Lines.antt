@@ -11,7 +11,7 @@ use Rattle.ground.specs.Round.{roundN}
 use Rattle.ground.specs.Sign.{signed, negative}
 use Rattle.ground.proofs.Every.{all}
 use Rattle.market.specs.Kinds.{raises}
-use Rattle.records.specs.Facts.{ConstraintRule}
+use Rattle.records.specs.Inner.Facts.{ConstraintRule}
 use Rattle.records.specs.declared.rows.Constraint.{Constraint}
 use Rattle.records.specs.declared.rows.UnitRow.{UnitRow}
 use Rattle.amounts.specs.Shares.{byFactor, byEnergy}
@@ -20,7 +20,7 @@ use Rattle.amounts.specs.declared.pools.Residual.{Residual}
 use Rattle.amounts.specs.declared.pools.Halves.{Halves}
 use Rattle.amounts.proofs.Signed.{factor-below, charge-shared}
 use Rattle.statement.specs.declared.Line.{Line}
-use Rattle.reading.specs.Reading.{regionsOk, unitOk, amountOk}
+use Rattle.reading.specs.Reading.{regionsOk, unitFieldOk, amountOk}
 use Rattle.lines.specs.Lines.{sharedLine, contingencyLine, fppLine, usedLine, unusedLine, fppRest, usedRest, unusedRest, aceLine, asoeLine}
 use Rattle.trips.proofs.Due.{Due}
 
@@ -58,36 +58,36 @@ energy-charged charge own total =
     let e : byEnergy 0 charge own total ≡ signed true (roundN (charge * own) total) = charge-shared charge own total in
     rw e (charge-signed (roundN (charge * own) total))
 
-factor-charged : (pool minus : ℕ) → (eqb (natAbs (byFactor pool 0 minus)) 0 || negative (byFactor pool 0 minus)) ≡ true
-factor-charged pool minus =
-    let e : byFactor pool 0 minus ≡ signed true (roundN (pool * minus) 1000000) = factor-below pool minus in
-    rw e (charge-signed (roundN (pool * minus) 1000000))
+factor-charged : (pool below : ℕ) → (eqb (natAbs (byFactor pool 0 below)) 0 || negative (byFactor pool 0 below)) ≡ true
+factor-charged pool below =
+    let e : byFactor pool 0 below ≡ signed true (roundN (pool * below) 1_000_000) = factor-below pool below in
+    rw e (charge-signed (roundN (pool * below) 1_000_000))
 
 last-two : (a b c : Bool) → (b || c) ≡ true → (a || b || c) ≡ true
 last-two true b c e = refl
 last-two false b c e = e
 
 -- "not positive outside parts 3 and 6"
-charge-ok : (part : ℕ) (z : ℤ) → (eqb (natAbs z) 0 || negative z) ≡ true → leb (natAbs z) 50000000000 ≡ true → amountOk part z ≡ true
+charge-ok : (part : ℕ) (z : ℤ) → (eqb (natAbs z) 0 || negative z) ≡ true → leb (natAbs z) 50_000_000_000 ≡ true → amountOk part z ≡ true
 charge-ok part z c e = rw e (last-two (eqb part 3 || eqb part 6) (eqb (natAbs z) 0) (negative z) c)
 
 -- ---- lines
 
 -- a line from its fields
-due : (l : Line) → 1 ≤ l .id → l .id < 2 ^ 32 → leb 1 (l .part) ≡ true → leb (l .part) 10 ≡ true → regionsOk (l .part) (l .regions) ≡ true → l .unit < 2 ^ 32 → unitOk (l .part) (l .unit) ≡ true → (leb (natAbs (l .amount)) 50000000000 ≡ true → amountOk (l .part) (l .amount) ≡ true) → Due l
+due : (l : Line) → 1 ≤ l .id → l .id < 2 ^ 32 → leb 1 (l .part) ≡ true → leb (l .part) 10 ≡ true → regionsOk (l .part) (l .regions) ≡ true → l .unit < 2 ^ 32 → unitFieldOk (l .part) (l .unit) ≡ true → (leb (natAbs (l .amount)) 50_000_000_000 ≡ true → amountOk (l .part) (l .amount) ≡ true) → Due l
 due l i f a b r u v m =
     record {
       written = λ e. record {
         ok =
-            all (leb 1 (l .id) ∷ leb 1 (l .part) ∷ leb (l .part) 10 ∷ regionsOk (l .part) (l .regions) ∷ unitOk (l .part) (l .unit) ∷ amountOk (l .part) (l .amount) ∷ [])
-            (le-leb 1 (l .id) i, (a, (b, (r, (v, (m (le-leb (natAbs (l .amount)) 50000000000 (ltb-false 50000000000 (natAbs (l .amount)) e)), tt))))));
+            all (leb 1 (l .id) ∷ leb 1 (l .part) ∷ leb (l .part) 10 ∷ regionsOk (l .part) (l .regions) ∷ unitFieldOk (l .part) (l .unit) ∷ amountOk (l .part) (l .amount) ∷ [])
+            (le-leb 1 (l .id) i, (a, (b, (r, (v, (m (le-leb (natAbs (l .amount)) 50_000_000_000 (ltb-false 50_000_000_000 (natAbs (l .amount)) e)), tt))))));
         id = f;
         unit = u;
       };
     }
 
 -- all charge, shared by energy
-shared-due : (id part regions charge own total : ℕ) → 1 ≤ id → id < 2 ^ 32 → leb 1 part ≡ true → leb part 10 ≡ true → regionsOk part regions ≡ true → unitOk part 0 ≡ true → Due (sharedLine id part regions 0 charge own total)
+shared-due : (id part regions charge own total : ℕ) → 1 ≤ id → id < 2 ^ 32 → leb 1 part ≡ true → leb part 10 ≡ true → regionsOk part regions ≡ true → unitFieldOk part 0 ≡ true → Due (sharedLine id part regions 0 charge own total)
 shared-due id part regions charge own total i f a b r v =
     due (sharedLine id part regions 0 charge own total) i f a b r (omega arith) v (charge-ok part (byEnergy 0 charge own total) (energy-charged charge own total))
 
@@ -121,7 +121,7 @@ module _ (r : Constraint) (h : ConstraintRule r) (f : r .id < 2 ^ 32) where
 
     pub used-due : Due (usedLine r p q)
     used-due =
-        due (usedLine r p q) (h .id) f refl refl (regions 4 refl) g (le-leb 1 (q .unit) u) (charge-ok 4 (byFactor (p .used) 0 (q .minus)) (factor-charged (p .used) (q .minus)))
+        due (usedLine r p q) (h .id) f refl refl (regions 4 refl) g (le-leb 1 (q .unit) u) (charge-ok 4 (byFactor (p .used) 0 (q .ncf)) (factor-charged (p .used) (q .ncf)))
 
     pub unused-due : Due (unusedLine r p q)
     unused-due =

@@ -5,23 +5,23 @@ use mathlib.Core.Path.{_≡_}
 use mathlib.Core.Bool.{Bool, true, false, _||_}
 use mathlib.Core.List.{List, [], _∷_}
 use lib.Dec.{eqb}
-use Rattle.ground.specs.Each.{Each}
+use Rattle.ground.specs.Inner.Each.{Each}
 use Rattle.ground.proofs.Each.{each-choice}
 use Rattle.records.specs.Rules.{factorOf}
-use Rattle.records.specs.Facts.{ConstraintRule}
+use Rattle.records.specs.Inner.Facts.{ConstraintRule}
 use Rattle.records.specs.declared.rows.Constraint.{Constraint}
 use Rattle.records.specs.declared.rows.UnitRow.{UnitRow}
 use Rattle.totals.specs.declared.entries.Totals.{Totals}
 use Rattle.book.specs.Book.{Book}
-use Rattle.book.specs.Accepted.{Promise}
+use Rattle.book.specs.Inner.Accepted.{Promise}
 use Rattle.amounts.specs.Pools.{halvesOf}
 use Rattle.amounts.specs.declared.pools.Pools.{Pools}
 use Rattle.amounts.specs.declared.pools.Residual.{Residual}
 use Rattle.statement.specs.declared.Line.{Line}
-use Rattle.reading.specs.Writable.{WritableLine}
+use Rattle.reading.specs.Inner.Writable.{WritableLine}
 use Rattle.lines.specs.Lines.{unitLines, restLines}
 use Rattle.lines.specs.Limit.{passesLimit, anyOver}
-use Rattle.walk.specs.Walks.{bookLines}
+use Rattle.walk.specs.Inner.Walks.{bookLines}
 use Rattle.settlement.proofs.EachLine.{EachKind, each-line}
 use Rattle.trips.proofs.Due.{Due, Narrow}
 use Rattle.trips.proofs.Lines.{contingency-due, fpp-rest-due, used-rest-due, unused-rest-due, fpp-due, used-due, unused-due, ace-due, asoe-due}

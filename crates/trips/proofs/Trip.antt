@@ -7,18 +7,18 @@ use borrow.Author.Tests.{le-leb}
 use lib.Dec.{leb}
 use lib.ListN.{length}
 use Rattle.ground.specs.Bytes.{AreBytes}
-use Rattle.ground.specs.Each.{Each}
+use Rattle.ground.specs.Inner.Each.{Each}
 use Rattle.ground.proofs.Every.{all}
 use Rattle.calendar.specs.Calendar.{isPeriod}
 use Rattle.book.specs.Book.{Book, bookOf}
-use Rattle.book.specs.Accepted.{Promise}
+use Rattle.book.specs.Inner.Accepted.{Promise}
 use Rattle.book.proofs.Promise.{accepted}
 use Rattle.accounts.specs.Account.{Public, Rows, publicOf, rowsOfAccount}
 use Rattle.statement.specs.Statement.{statementBytes}
 use Rattle.statement.specs.Lent.{gives}
 use Rattle.statement.specs.declared.Heading.{Heading}
 use Rattle.reading.specs.Reading.{headingAt, linesIn}
-use Rattle.reading.specs.Writable.{WritableHeading, WritableLine}
+use Rattle.reading.specs.Inner.Writable.{WritableHeading, WritableLine}
 use Rattle.reading.proofs.Written.{heading-back, lines-back, written-accepted}
 use Rattle.settlement.specs.Settle.{linesOf, headingOf, statementOf, outcome}
 use Rattle.trips.specs.ReadBack.{ReadBack}

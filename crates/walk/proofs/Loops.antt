@@ -9,8 +9,8 @@ use Rattle.records.specs.declared.rows.Entry.{Entry}
 use Rattle.records.specs.declared.rows.Constraint.{Constraint}
 use Rattle.records.specs.declared.rows.UnitRow.{UnitRow}
 use Rattle.records.specs.declared.rows.Contract.{Contract}
-use Rattle.totals.specs.Divisors.{divisorOf}
-use Rattle.totals.specs.Totals.{entryOf}
+use Rattle.totals.specs.Divisors.{overRegions}
+use Rattle.totals.specs.Inner.Totals.{entryOf}
 use Rattle.totals.specs.declared.entries.Totals.{Totals}
 use Rattle.amounts.specs.Pools.{halvesOf}
 use Rattle.amounts.specs.declared.pools.Halves.{Halves}
@@ -18,9 +18,9 @@ use Rattle.accounts.specs.Rows.{joined}
 use Rattle.accounts.proofs.Joined.{joined-none, joined-more, joined-all, joined-room}
 use Rattle.statement.specs.declared.Line.{Line}
 use Rattle.lines.specs.Lines.{aceLine, asoeLine, regionLines}
-use Rattle.lines.specs.Emitted.{Emitted, Room}
+use Rattle.lines.specs.Inner.Emitted.{Emitted, LineRoom}
 use Rattle.lines.proofs.Emission.{emitted-none, emitted-more, room-less, room-rest}
-use Rattle.walk.specs.Walks.{conLines, Settles, LinesDone, conLinesAt, Ready, contractLinesAt}
+use Rattle.walk.specs.Inner.Walks.{conLines, Settles, LinesDone, conLinesAt, Ready, contractLinesAt}
 use Rattle.walk.specs.declared.units.Cursor.{Cursor}
 
 -- ---- any records
@@ -30,7 +30,7 @@ module _ (f : ℕ → List Line) {l : List ℕ} {t : ℕ} where
   out-start = rw (joined-none f) (emitted-none l t)
 
   module _ (i : ℕ) {b : List ℕ} {x : ℕ} (h : Emitted l t (joined f i) b x) where
-    pub out-room : (n : ℕ) → i < n → Room l t (length (joined f n)) → Room b x (length (f i))
+    pub out-room : (n : ℕ) → i < n → LineRoom l t (length (joined f n)) → LineRoom b x (length (f i))
     out-room n j o = room-rest (joined f i) _ (room-less _ _ (joined-room f i n j) o) h
 
     pub out-more : {a : List ℕ} {y : ℕ} → Emitted b x (f i) a y → Emitted l t (joined f (i + 1)) a y
@@ -41,7 +41,7 @@ module _ (f : ℕ → List Line) {l : List ℕ} {t : ℕ} where
 
 -- ---- constraints; r is constraint j, and total what it divides by
 
-module _ (entry : ℕ → Entry) (con : ℕ → Constraint) (n : ℕ) (unit : ℕ → UnitRow) (m account : ℕ) (own : Totals) (j : ℕ) {r : Constraint} {total : ℕ} (e : r ≡ con j) (d : total ≡ divisorOf entry r) where
+module _ (entry : ℕ → Entry) (con : ℕ → Constraint) (n : ℕ) (unit : ℕ → UnitRow) (m account : ℕ) (own : Totals) (j : ℕ) {r : Constraint} {total : ℕ} (e : r ≡ con j) (d : total ≡ overRegions entry r) where
   pub settles-at : Ready entry con n unit m own → j < n → Settles unit m r own total
   settles-at h l =
       record {
@@ -51,14 +51,14 @@ module _ (entry : ℕ → Entry) (con : ℕ → Constraint) (n : ℕ) (unit : �
         shared = rw (d, e) (h .shared j l);
       }
 
-  lines-at : conLines unit m account r (divisorOf (entryOf own) r) total ≡ conLinesAt entry con unit m account own j
+  lines-at : conLines unit m account r (overRegions (entryOf own) r) total ≡ conLinesAt entry con unit m account own j
   unfolding conLinesAt
   lines-at = rw (d, e)
 
-  pub con-room : {l : List ℕ} {t : ℕ} → Room l t (length (conLinesAt entry con unit m account own j)) → Room l t (length (conLines unit m account r (divisorOf (entryOf own) r) total))
+  pub con-room : {l : List ℕ} {t : ℕ} → LineRoom l t (length (conLinesAt entry con unit m account own j)) → LineRoom l t (length (conLines unit m account r (overRegions (entryOf own) r) total))
   con-room h = rw lines-at h
 
-  pub con-out : {l : List ℕ} {t : ℕ} {b : List ℕ} {x : Cursor} → LinesDone unit m r (conLines unit m account r (divisorOf (entryOf own) r) total) l t b x → Emitted l t (conLinesAt entry con unit m account own j) b (x .place)
+  pub con-out : {l : List ℕ} {t : ℕ} {b : List ℕ} {x : Cursor} → LinesDone unit m r (conLines unit m account r (overRegions (entryOf own) r) total) l t b x → Emitted l t (conLinesAt entry con unit m account own j) b (x .place)
   con-out h = rw lines-at at (h .out)
 
 -- ---- a contract's region
@@ -69,7 +69,7 @@ module _ (entry own : ℕ → Entry) (k : Contract) (g : ℕ) {l : List ℕ} {t 
   region-none e = rw (eq-eqb _ _ e) (emitted-none l t)
 
   module _ (d : factorOf (k .factors) g ≡ 0 → ⊥) where
-    pub region-room : Room l t (length (regionLines entry own k g)) → Room l t 2
+    pub region-room : LineRoom l t (length (regionLines entry own k g)) → LineRoom l t 2
     unfolding regionLines
     region-room h = rw (ne-eqb _ _ d) at h
 
@@ -80,7 +80,7 @@ module _ (entry own : ℕ → Entry) (k : Contract) (g : ℕ) {l : List ℕ} {t 
 -- ---- contract i
 
 module _ (entry own : ℕ → Entry) (contract : ℕ → Contract) (i : ℕ) {k : Contract} (e : k ≡ contract i) {l : List ℕ} {t : ℕ} where
-  pub contract-room : Room l t (length (contractLinesAt entry own contract i)) → Room l t (length (joined (regionLines entry own k) 5))
+  pub contract-room : LineRoom l t (length (contractLinesAt entry own contract i)) → LineRoom l t (length (joined (regionLines entry own k) 5))
   unfolding contractLinesAt
   contract-room h = rw e h
 

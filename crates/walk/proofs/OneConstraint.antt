@@ -6,19 +6,19 @@ use borrow.Author.Tests.{eq-eqb, ne-eqb}
 use lib.ListN.{length, length-append}
 use native.Mathlib.Omega.{arith}
 use native.Mathlib.Nat.{le-of-lt}
-use Rattle.sections.specs.Walk.{Stands, Past}
+use Rattle.sections.specs.Inner.Walk.{Stands, Past}
 use Rattle.records.specs.declared.rows.Constraint.{Constraint}
 use Rattle.records.specs.declared.rows.UnitRow.{UnitRow}
 use Rattle.factors.specs.Naming.{keyOf}
-use Rattle.amounts.specs.Pools.{poolsOf, residualOf}
+use Rattle.amounts.specs.Pools.{poolsOf, residualPools}
 use Rattle.amounts.specs.declared.pools.Pools.{Pools}
 use Rattle.amounts.specs.declared.pools.Residual.{Residual}
 use Rattle.accounts.specs.Rows.{joined}
 use Rattle.statement.specs.declared.Line.{Line}
 use Rattle.lines.specs.Lines.{contingencyLine, restLines}
-use Rattle.lines.specs.Emitted.{Emitted, Room}
+use Rattle.lines.specs.Inner.Emitted.{Emitted, LineRoom}
 use Rattle.lines.proofs.Emission.{emitted-more, room-less, room-rest}
-use Rattle.walk.specs.Walks.{unitLinesAt, UnitsDone, conLines, LinesDone}
+use Rattle.walk.specs.Inner.Walks.{unitLinesAt, UnitsDone, conLines, LinesDone}
 use Rattle.walk.specs.declared.units.Cursor.{Cursor}
 
 -- a cursor at the first row of a key that no row has stands behind its rows too
@@ -36,7 +36,7 @@ no-rows key m k u s none =
 module _ (unit : ℕ → UnitRow) (m account : ℕ) (r : Constraint) (o total : ℕ) {l : List ℕ} {t : ℕ} where
   -- ---- mode 0
 
-  pub plain-room : r .mode ≡ 0 → Room l t (length (conLines unit m account r o total)) → Room l t 1
+  pub plain-room : r .mode ≡ 0 → LineRoom l t (length (conLines unit m account r o total)) → LineRoom l t 1
   unfolding conLines
   plain-room e h = rw (eq-eqb _ _ e) at h
 
@@ -47,22 +47,22 @@ module _ (unit : ℕ → UnitRow) (m account : ℕ) (r : Constraint) (o total : 
 -- ---- the other modes
 
 module _ (unit : ℕ → UnitRow) (m account : ℕ) (r : Constraint) (o total : ℕ) {p : Pools} (d : r .mode ≡ 0 → ⊥) (e : p ≡ poolsOf r) where
-  parts : conLines unit m account r o total ≡ joined (unitLinesAt unit account r p) m ++ restLines r (residualOf r p) o total
+  parts : conLines unit m account r o total ≡ joined (unitLinesAt unit account r p) m ++ restLines r (residualPools r p) o total
   unfolding conLines
   parts = rw (ne-eqb _ _ d, e)
 
-  count : length (joined (unitLinesAt unit account r p) m) + length (restLines r (residualOf r p) o total) ≡ length (conLines unit m account r o total)
-  count = sym (ap length parts ∙ length-append (joined (unitLinesAt unit account r p) m) (restLines r (residualOf r p) o total))
+  count : length (joined (unitLinesAt unit account r p) m) + length (restLines r (residualPools r p) o total) ≡ length (conLines unit m account r o total)
+  count = sym (ap length parts ∙ length-append (joined (unitLinesAt unit account r p) m) (restLines r (residualPools r p) o total))
 
   module _ {l : List ℕ} {t : ℕ} where
-    pub units-room : Room l t (length (conLines unit m account r o total)) → Room l t (length (joined (unitLinesAt unit account r p) m))
+    pub units-room : LineRoom l t (length (conLines unit m account r o total)) → LineRoom l t (length (joined (unitLinesAt unit account r p) m))
     units-room h = room-less _ _ (first-part _ _ count) h
       where
         first-part : (a b : ℕ) {c : ℕ} → a + b ≡ c → a ≤ c
         first-part a b q = omega arith
 
-    module _ {a : List ℕ} {x : Cursor} {y : Residual} {s : ℕ} (u : UnitsDone unit m account r p l t a x) (f : y ≡ residualOf r p) (g : s ≡ o) where
-      pub rest-room : Room l t (length (conLines unit m account r o total)) → Room a (x .place) (length (restLines r y s total))
+    module _ {a : List ℕ} {x : Cursor} {y : Residual} {s : ℕ} (u : UnitsDone unit m account r p l t a x) (f : y ≡ residualPools r p) (g : s ≡ o) where
+      pub rest-room : LineRoom l t (length (conLines unit m account r o total)) → LineRoom a (x .place) (length (restLines r y s total))
       rest-room h = rw (f, g) (room-rest (joined (unitLinesAt unit account r p) m) _ (rw (← count) at h) (u .out))
 
       pub rest-done : {b : List ℕ} {z : ℕ} → Emitted a (x .place) (restLines r y s total) b z → LinesDone unit m r (conLines unit m account r o total) l t b (record { next = x .next; place = z })

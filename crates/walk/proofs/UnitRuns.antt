@@ -5,19 +5,19 @@ use mathlib.Core.List.{List, []}
 use borrow.Author.Tests.{eq-eqb, ne-eqb}
 use lib.ListN.{length}
 use native.Mathlib.Omega.{arith}
-use Rattle.sections.specs.Walk.{Stands, Past}
+use Rattle.sections.specs.Inner.Walk.{Stands, Past}
 use Rattle.sections.proofs.Walk.{Run, run-start, run-next, run-stop, run-done}
 use Rattle.records.specs.declared.rows.Constraint.{Constraint}
 use Rattle.records.specs.declared.rows.UnitRow.{UnitRow}
 use Rattle.factors.specs.Naming.{keyOf}
-use Rattle.factors.specs.Runs.{Walked}
+use Rattle.factors.specs.Inner.Runs.{Walked}
 use Rattle.amounts.specs.declared.pools.Pools.{Pools}
 use Rattle.accounts.specs.Rows.{joined}
 use Rattle.accounts.proofs.Joined.{joined-more, joined-room, joined-nothing, joined-rest}
 use Rattle.lines.specs.Lines.{unitLines}
-use Rattle.lines.specs.Emitted.{Emitted, Room}
+use Rattle.lines.specs.Inner.Emitted.{Emitted, LineRoom}
 use Rattle.lines.proofs.Emission.{emitted-none, emitted-more, room-less, room-rest}
-use Rattle.walk.specs.Walks.{ownLines, unitLinesAt, UnitsDone}
+use Rattle.walk.specs.Inner.Walks.{ownLines, unitLinesAt, UnitsDone}
 
 -- ---- one row
 
@@ -26,7 +26,7 @@ module _ (account : ℕ) (r : Constraint) (p : Pools) (q : UnitRow) {l : List �
   unfolding ownLines
   own-skip d = rw (ne-eqb _ _ d) (emitted-none l t)
 
-  pub own-room : q .account ≡ account → Room l t (length (ownLines account r p q)) → Room l t (length (unitLines r p q))
+  pub own-room : q .account ≡ account → LineRoom l t (length (ownLines account r p q)) → LineRoom l t (length (unitLines r p q))
   unfolding ownLines
   own-room e h = rw (eq-eqb _ _ e) at h
 
@@ -66,7 +66,7 @@ module _ (unit : ℕ → UnitRow) (m account : ℕ) (r : Constraint) (p : Pools)
         }
 
     module _ (u : ℕ) {b : List ℕ} {x : ℕ} {q : UnitRow} (h : Running l t b u x) (j : u < m) (e : q ≡ unit u) where
-      pub running-room : q .constraint ≡ r .id → Room l t (length (joined (unitLinesAt unit account r p) m)) → Room b x (length (ownLines account r p q))
+      pub running-room : q .constraint ≡ r .id → LineRoom l t (length (joined (unitLinesAt unit account r p) m)) → LineRoom b x (length (ownLines account r p q))
       running-room k o =
           rw (← this u e k)
           (room-rest _ _ (room-less _ _ (joined-room (unitLinesAt unit account r p) u m j) o) (h .out))

@@ -4,13 +4,13 @@ mod units; // units.rt: an account's lines of one constraint
 ghost use Prim.Native.Nat.{ℕ, _*_, _≤_, _<_};
 ghost use lib.ListN.{length};
 ghost use Rattle.records.specs.Rows.{entryRow, constraintRow, unitRow, contractRow};
-ghost use Rattle.totals.specs.Totals.{entryOf};
+ghost use Rattle.totals.specs.Inner.Totals.{entryOf};
 ghost use Rattle.accounts.specs.Rows.{joined};
 ghost use Rattle.lines.specs.Lines.{regionLines};
-ghost use Rattle.lines.specs.Emitted.{Emitted, Room};
-ghost use Rattle.walk.specs.Walks.{conLinesAt, contractLinesAt, bookLines, Ready, Payable, Walkable};
+ghost use Rattle.lines.specs.Inner.Emitted.{Emitted, LineRoom};
+ghost use Rattle.walk.specs.Inner.Walks.{conLinesAt, contractLinesAt, bookLines, Ready, ContractSettles, Walkable};
 ghost use Rattle.book.specs.Book.{bookIn};
-ghost use Rattle.book.specs.Facts.{Laid};
+ghost use Rattle.book.specs.Inner.Facts.{Laid};
 use amounts::pools;
 use book::header::Header;
 use lines::groups;
@@ -34,7 +34,7 @@ fn constraints(
 ) -> usize
     requires { ⌜ (60 ≤ length (now regions)) × ((n * 40 ≤ length (now cons)) × (m * 20 ≤ length (now units))) ⌝ }
     requires { ⌜ Ready (entryRow (now regions)) (constraintRow (now cons)) n (unitRow (now units)) m own ⌝ }
-    requires { ⌜ Room (now buf) place (length (joined (conLinesAt (entryRow (now regions)) (constraintRow (now cons)) (unitRow (now units)) m account own) n)) ⌝ }
+    requires { ⌜ LineRoom (now buf) place (length (joined (conLinesAt (entryRow (now regions)) (constraintRow (now cons)) (unitRow (now units)) m account own) n)) ⌝ }
     ensures { λ x. ⌜ Emitted (now (buf .entry)) place (joined (conLinesAt (entryRow (now (regions .entry))) (constraintRow (now (cons .entry))) (unitRow (now (units .entry))) m account own) n) (now (buf .exit)) x ⌝ }
 {
     let all = divisors::totals_of(regions);
@@ -62,8 +62,8 @@ fn region_lines(
     own: Totals,
 ) -> usize
     requires { ⌜ (60 ≤ length (now regions)) × (g < 5) ⌝ }
-    requires { ⌜ Payable (entryRow (now regions)) k own ⌝ }
-    requires { ⌜ Room (now buf) place (length (regionLines (entryRow (now regions)) (entryOf own) k g)) ⌝ }
+    requires { ⌜ ContractSettles (entryRow (now regions)) k own ⌝ }
+    requires { ⌜ LineRoom (now buf) place (length (regionLines (entryRow (now regions)) (entryOf own) k g)) ⌝ }
     ensures { λ x. ⌜ Emitted (now (buf .entry)) place (regionLines (entryRow (now (regions .entry))) (entryOf own) k g) (now (buf .exit)) x ⌝ }
 {
     let factors = k.factors;
@@ -82,8 +82,8 @@ fn region_lines(
 
 fn contract_lines(buf: &mut [u8], place: usize, regions: &[u8], k: Contract, own: Totals) -> usize
     requires { ⌜ 60 ≤ length (now regions) ⌝ }
-    requires { ⌜ Payable (entryRow (now regions)) k own ⌝ }
-    requires { ⌜ Room (now buf) place (length (joined (regionLines (entryRow (now regions)) (entryOf own) k) 5)) ⌝ }
+    requires { ⌜ ContractSettles (entryRow (now regions)) k own ⌝ }
+    requires { ⌜ LineRoom (now buf) place (length (joined (regionLines (entryRow (now regions)) (entryOf own) k) 5)) ⌝ }
     ensures { λ x. ⌜ Emitted (now (buf .entry)) place (joined (regionLines (entryRow (now (regions .entry))) (entryOf own) k) 5) (now (buf .exit)) x ⌝ }
 {
     let mut end = place;
@@ -105,8 +105,8 @@ fn contracts(
     own: Totals,
 ) -> usize
     requires { ⌜ (60 ≤ length (now regions)) × (n * 36 ≤ length (now contracts)) ⌝ }
-    requires { ⌜ ((k : ℕ) → k < n → Payable (entryRow (now regions)) (contractRow (now contracts) k) own) ⌝ }
-    requires { ⌜ Room (now buf) place (length (joined (contractLinesAt (entryRow (now regions)) (entryOf own) (contractRow (now contracts))) n)) ⌝ }
+    requires { ⌜ ((k : ℕ) → k < n → ContractSettles (entryRow (now regions)) (contractRow (now contracts) k) own) ⌝ }
+    requires { ⌜ LineRoom (now buf) place (length (joined (contractLinesAt (entryRow (now regions)) (entryOf own) (contractRow (now contracts))) n)) ⌝ }
     ensures { λ x. ⌜ Emitted (now (buf .entry)) place (joined (contractLinesAt (entryRow (now (regions .entry))) (entryOf own) (contractRow (now (contracts .entry)))) n) (now (buf .exit)) x ⌝ }
 {
     let mut end = place;
@@ -123,7 +123,7 @@ fn contracts(
 pub fn all_lines(buf: &mut [u8], book: &[u8], h: Header, own: Totals, account: u32) -> usize
     requires { ⌜ Laid (now book) h ⌝ }
     requires { ⌜ Walkable (bookIn (now book) h) own ⌝ }
-    requires { ⌜ Room (now buf) 24 (length (bookLines (bookIn (now book) h) account own)) ⌝ }
+    requires { ⌜ LineRoom (now buf) 24 (length (bookLines (bookIn (now book) h) account own)) ⌝ }
     ensures { λ e. ⌜ Emitted (now (buf .entry)) 24 (bookLines (bookIn (now (book .entry)) h) account own) (now (buf .exit)) e ⌝ }
 {
     let units = h.units_at();

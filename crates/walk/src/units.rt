@@ -1,17 +1,17 @@
 // An account's lines of one constraint. Unit rows stand by their constraints, so a cursor walks them beside the constraints.
 ghost use Prim.Native.Nat.{_*_, _≤_};
 ghost use lib.ListN.{length};
-ghost use Rattle.sections.specs.Walk.{Stands};
+ghost use Rattle.sections.specs.Inner.Walk.{Stands};
 ghost use Rattle.records.specs.Rows.{unitRow};
-ghost use Rattle.records.specs.Facts.{UnitRule};
+ghost use Rattle.records.specs.Inner.Facts.{UnitRule};
 ghost use Rattle.factors.specs.Naming.{keyOf};
-ghost use Rattle.factors.specs.Runs.{Walked};
-ghost use Rattle.totals.specs.Divisors.{divisorOf};
-ghost use Rattle.totals.specs.Totals.{entryOf};
-ghost use Rattle.amounts.specs.Bounds.{SmallPools};
+ghost use Rattle.factors.specs.Inner.Runs.{Walked};
+ghost use Rattle.totals.specs.Divisors.{overRegions};
+ghost use Rattle.totals.specs.Inner.Totals.{entryOf};
+ghost use Rattle.amounts.specs.Inner.Bounds.{SmallPools};
 ghost use Rattle.accounts.specs.Rows.{joined};
-ghost use Rattle.lines.specs.Emitted.{Emitted, Room};
-ghost use Rattle.walk.specs.Walks.{ownLines, unitLinesAt, UnitsDone, conLines, Settles, LinesDone};
+ghost use Rattle.lines.specs.Inner.Emitted.{Emitted, LineRoom};
+ghost use Rattle.walk.specs.Inner.Walks.{ownLines, unitLinesAt, UnitsDone, conLines, Settles, LinesDone};
 use amounts::pools;
 use amounts::pools::Pools;
 use lines::groups;
@@ -32,7 +32,7 @@ fn own_unit(
     q: UnitRow,
     account: u32,
 ) -> usize
-    requires { ⌜ Room (now buf) place (length (ownLines account r p q)) ⌝ }
+    requires { ⌜ LineRoom (now buf) place (length (ownLines account r p q)) ⌝ }
     requires { ⌜ SmallPools p ⌝ }
     requires { ⌜ UnitRule q ⌝ }
     ensures { λ e. ⌜ Emitted (now (buf .entry)) place (ownLines account r p q) (now (buf .exit)) e ⌝ }
@@ -64,7 +64,7 @@ fn unit_run(
     requires { ⌜ Walked (unitRow (now units)) m ⌝ }
     requires { ⌜ Stands (keyOf (unitRow (now units))) m (r .id) from ⌝ }
     requires { ⌜ SmallPools p ⌝ }
-    requires { ⌜ Room (now buf) place (length (joined (unitLinesAt (unitRow (now units)) account r p) m)) ⌝ }
+    requires { ⌜ LineRoom (now buf) place (length (joined (unitLinesAt (unitRow (now units)) account r p) m)) ⌝ }
     ensures { λ x. ⌜ UnitsDone (unitRow (now (units .entry))) m account r p (now (buf .entry)) place (now (buf .exit)) x ⌝ }
 {
     let mut u = from;
@@ -102,8 +102,8 @@ pub(crate) fn constraint_lines(
     requires { ⌜ Walked (unitRow (now units)) m ⌝ }
     requires { ⌜ Stands (keyOf (unitRow (now units))) m (r .id) from ⌝ }
     requires { ⌜ Settles (unitRow (now units)) m r own total ⌝ }
-    requires { ⌜ Room (now buf) place (length (conLines (unitRow (now units)) m account r (divisorOf (entryOf own) r) total)) ⌝ }
-    ensures { λ x. ⌜ LinesDone (unitRow (now (units .entry))) m r (conLines (unitRow (now (units .entry))) m account r (divisorOf (entryOf own) r) total) (now (buf .entry)) place (now (buf .exit)) x ⌝ }
+    requires { ⌜ LineRoom (now buf) place (length (conLines (unitRow (now units)) m account r (overRegions (entryOf own) r) total)) ⌝ }
+    ensures { λ x. ⌜ LinesDone (unitRow (now (units .entry))) m r (conLines (unitRow (now (units .entry))) m account r (overRegions (entryOf own) r) total) (now (buf .entry)) place (now (buf .exit)) x ⌝ }
 {
     let share = divisors::over_regions(own, r);
     if r.mode == Mode::CONTINGENCY {

@@ -3,7 +3,7 @@ use Prim.Native.Nat.{_≤_, _-_}
 use native.Mathlib.Omega.{arith}
 use borrow.Author.Needs.{needs}
 use Rattle.records.specs.Rows.{contractRow}
-use Rattle.count.specs.Counts.{ContractsCounted}
+use Rattle.count.specs.Inner.Counts.{ContractsCounted}
 use Rattle.count.proofs.Counting.{contracts-none, contracts-more, contracts-all}
 use Rattle.count.proofs.contracts.Statement.{statement}
 use Rattle.count.proofs.contracts.Tie as tie

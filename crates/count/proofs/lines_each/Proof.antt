@@ -1,7 +1,7 @@
 -- `count::lines_each` meets its contract. The mode decides. Assumes nothing.
 use native.Mathlib.Omega.{arith}
 use borrow.Author.Tests.{eq-eqb, ne-eqb}
-use Rattle.count.specs.Counts.{eachOf}
+use Rattle.count.specs.Inner.Counts.{eachOf}
 use Rattle.count.proofs.lines_each.Statement.{statement}
 use Rattle.count.proofs.lines_each.Tie as tie
 

@@ -2,7 +2,7 @@
 use Prim.Native.Nat.{_≤_, _-_}
 use native.Mathlib.Omega.{arith}
 use Rattle.records.specs.Rows.{constraintRow, unitRow}
-use Rattle.count.specs.Counts.{MetAt}
+use Rattle.count.specs.Inner.Counts.{MetAt}
 use Rattle.count.proofs.Counting.{met-start, units-all}
 use Rattle.count.proofs.unit_lines.Statement.{statement}
 use Rattle.count.proofs.unit_lines.Tie as tie

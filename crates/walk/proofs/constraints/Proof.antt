@@ -4,14 +4,14 @@ use native.Mathlib.Omega.{arith}
 use borrow.Author.Needs.{needs}
 use Rattle.totals.proofs.Turns.{totals-rule, divisor-read}
 use Rattle.walk.proofs.Loops.{out-start, out-room, out-more, out-all, settles-at, con-room, con-out}
-use Rattle.walk.specs.Walks.{conLinesAt}
+use Rattle.walk.specs.Inner.Walks.{conLinesAt}
 use Rattle.lines.proofs.Emission.{emitted-length}
-use Rattle.lines.specs.Emitted.{Emitted}
+use Rattle.lines.specs.Inner.Emitted.{Emitted}
 use Rattle.accounts.specs.Rows.{joined}
 use Rattle.factors.specs.Naming.{idOf, keyOf}
 use Rattle.records.specs.Rows.{entryRow, constraintRow, unitRow}
 use Rattle.sections.proofs.Walk.{stands-first, stands-next}
-use Rattle.sections.specs.Walk.{Stands}
+use Rattle.sections.specs.Inner.Walk.{Stands}
 use Rattle.walk.proofs.constraints.Statement.{statement}
 use Rattle.walk.proofs.constraints.Tie as tie
 

@@ -4,9 +4,9 @@ use native.Mathlib.Omega.{arith}
 use Rattle.walk.proofs.Loops.{out-start, out-room, out-more, out-all}
 use Rattle.lines.specs.Lines.{regionLines}
 use Rattle.records.specs.Rows.{entryRow}
-use Rattle.totals.specs.Totals.{entryOf}
+use Rattle.totals.specs.Inner.Totals.{entryOf}
 use Rattle.lines.proofs.Emission.{emitted-length}
-use Rattle.lines.specs.Emitted.{Emitted}
+use Rattle.lines.specs.Inner.Emitted.{Emitted}
 use Rattle.accounts.specs.Rows.{joined}
 use Rattle.walk.proofs.contract_lines.Statement.{statement}
 use Rattle.walk.proofs.contract_lines.Tie as tie

@@ -2,11 +2,11 @@
 use Prim.Native.Nat.{_≤_, _-_}
 use native.Mathlib.Omega.{arith}
 use Rattle.walk.proofs.Loops.{out-start, out-room, out-more, out-all, contract-room, contract-out}
-use Rattle.walk.specs.Walks.{contractLinesAt}
+use Rattle.walk.specs.Inner.Walks.{contractLinesAt}
 use Rattle.records.specs.Rows.{entryRow, contractRow}
-use Rattle.totals.specs.Totals.{entryOf}
+use Rattle.totals.specs.Inner.Totals.{entryOf}
 use Rattle.lines.proofs.Emission.{emitted-length}
-use Rattle.lines.specs.Emitted.{Emitted}
+use Rattle.lines.specs.Inner.Emitted.{Emitted}
 use Rattle.accounts.specs.Rows.{joined}
 use Rattle.walk.proofs.contracts.Statement.{statement}
 use Rattle.walk.proofs.contracts.Tie as tie

@@ -6,11 +6,11 @@ use Rattle.amounts.proofs.pools.fpp_pool.Statement.{statement}
 use Rattle.amounts.proofs.pools.fpp_pool.Tie as tie
 
 mul-nearest : tie.Need-mul-nearest
-mul-nearest c = omega (arith, mul-le-mul {n₁ = c .args .price} {m₁ = c .args .response} {n₂ = 4294967295} {m₂ = 4294967295} (search needs) (search needs))
+mul-nearest c = omega (arith, mul-le-mul {n₁ = c .args .price} {m₁ = c .args .response} {n₂ = 4_294_967_295} {m₂ = 4_294_967_295} (search needs) (search needs))
 
 nearest-requires : tie.Need-nearest-requires
 nearest-requires c κs =
-    (omega arith, omega (arith, mul-le-mul {n₁ = c .args .price} {m₁ = c .args .response} {n₂ = 4294967295} {m₂ = 4294967295} (search needs) (search needs)))
+    (omega arith, omega (arith, mul-le-mul {n₁ = c .args .price} {m₁ = c .args .response} {n₂ = 4_294_967_295} {m₂ = 4_294_967_295} (search needs) (search needs)))
 
 returns : tie.Need-returns
 returns c = c .nearest .ensures

@@ -23,7 +23,7 @@ share-requires c κs = search needs
 
 nearest-requires : tie.Need-nearest-requires
 nearest-requires c κs =
-    (omega arith, omega (arith, c .share .ensures, round-share (c .before .args .payment) (c .before .args .factor) 1000000 (c .before .pre .1)))
+    (omega arith, omega (arith, c .share .ensures, round-share (c .before .args .payment) (c .before .args .factor) 1_000_000 (c .before .pre .1)))
 
 sub-t5 : tie.Need-sub-t5
 sub-t5 c = search needs

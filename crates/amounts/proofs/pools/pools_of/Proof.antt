@@ -5,7 +5,7 @@ use borrow.Author.Needs.{needs}
 use Rattle.market.proofs.Modes.{unfactored}
 use Rattle.ground.proofs.Rounding.{round-share}
 use Rattle.amounts.proofs.Sizes.{data-in}
-use Rattle.amounts.specs.Pools.{allUnused, poolsIn}
+use Rattle.amounts.specs.Pools.{allUnused, poolsByMode}
 use Rattle.amounts.proofs.pools.pools_of.Statement.{statement}
 use Rattle.amounts.proofs.pools.pools_of.Tie as tie
 
@@ -16,8 +16,8 @@ enum-known-mode : tie.Need-enum-known-mode
 enum-known-mode c = search needs
 
 returns : tie.Need-returns
-unfolding poolsIn
-returns c = rw (sym (c .before .of .ensures)) (unfactored (λ m. allUnused (c .before .before .args .r .cost) ≡ poolsIn (c .before .before .args .r .cost) m) refl refl refl (c .before .of .result) (c .match .keys2))
+unfolding poolsByMode
+returns c = rw (sym (c .before .of .ensures)) (unfactored (λ m. allUnused (c .before .before .args .r .cost) ≡ poolsByMode (c .before .before .args .r .cost) m) refl refl refl (c .before .of .result) (c .match .keys2))
 
 cast-share : tie.Need-cast-share
 cast-share c = search needs
@@ -29,10 +29,10 @@ fpp-pool-requires : tie.Need-fpp-pool-requires
 fpp-pool-requires c κs = search needs
 
 sub-t8 : tie.Need-sub-t8
-sub-t8 c = omega (arith, c .before .before .share .ensures, round-share (c .before .before .before .before .before .before .before .args .r .cost) (c .before .before .before .before .mode .given .0 .1 .1 .0) 1000000 (data-in _ (c .before .before .before .before .before .before .before .pre) (c .before .before .before .before .before .before .of .ensures) (c .before .before .before .before .mode .given .1) .used))
+sub-t8 c = omega (arith, c .before .before .share .ensures, round-share (c .before .before .before .before .before .before .before .args .r .cost) (c .before .before .before .before .mode .given .0 .1 .1 .0) 1_000_000 (data-in _ (c .before .before .before .before .before .before .before .pre) (c .before .before .before .before .before .before .of .ensures) (c .before .before .before .before .mode .given .1) .used))
 
 returns-2 : tie.Need-returns-2
-unfolding poolsIn
+unfolding poolsByMode
 returns-2 c = rw (sym (c .before .before .before .before .before .before .of .ensures), c .before .before .before .before .mode .given .1, c .before .before .share .ensures, c .before .fpp-pool .ensures)
 
 pub pools-of-spec : {M : Type 1} → statement M

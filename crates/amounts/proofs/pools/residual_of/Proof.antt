@@ -1,6 +1,6 @@
 -- `amounts::pools::residual_of` meets its contract. Each part is a rounded share of its pool. Assumes nothing.
 use borrow.Author.Needs.{needs}
-use Rattle.amounts.specs.Pools.{residualOf}
+use Rattle.amounts.specs.Pools.{residualPools}
 use Rattle.amounts.proofs.pools.residual_of.Statement.{statement}
 use Rattle.amounts.proofs.pools.residual_of.Tie as tie
 
@@ -29,7 +29,7 @@ share-requires-4 : tie.Need-share-requires-4
 share-requires-4 c κs = search needs
 
 returns : tie.Need-returns
-unfolding residualOf
+unfolding residualPools
 returns c = rw (c .share4 .ensures, c .before .before .share3 .ensures, c .before .before .before .before .share2 .ensures, c .before .before .before .before .before .before .share .ensures)
 
 pub residual-of-spec : {M : Type 1} → statement M

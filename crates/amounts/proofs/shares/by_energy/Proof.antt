@@ -17,7 +17,7 @@ add-share : tie.Need-add-share
 add-share c = search needs
 
 share-requires : tie.Need-share-requires
-share-requires c κs = (side-small (c .before .args .credit) (c .before .args .charge) 50000000000 (c .if1 .taken) (c .before .pre .0) (c .before .pre .1 .0), search needs)
+share-requires c κs = (side-small (c .before .args .credit) (c .before .args .charge) 50_000_000_000 (c .if1 .taken) (c .before .pre .0) (c .before .pre .1 .0), search needs)
 
 signed-requires : tie.Need-signed-requires
 signed-requires c κs = omega (arith, c .share .ensures, round-share (c .before .before .args .credit + c .before .before .args .charge) (c .before .before .args .own) (c .before .before .args .total) (c .before .before .pre .1 .1 .0))

@@ -16,7 +16,7 @@ share-requires-2 : tie.Need-share-requires-2
 share-requires-2 c κs = search needs
 
 net-requires : tie.Need-net-requires
-net-requires c κs = (omega (arith, c .before .share .ensures, round-share (c .before .before .args .pool) (c .before .before .args .plus) 1000000 (c .before .before .pre .1 .0)), omega (arith, c .share2 .ensures, round-share (c .before .before .args .pool) (c .before .before .args .minus) 1000000 (c .before .before .pre .1 .1)))
+net-requires c κs = (omega (arith, c .before .share .ensures, round-share (c .before .before .args .pool) (c .before .before .args .above) 1_000_000 (c .before .before .pre .1 .0)), omega (arith, c .share2 .ensures, round-share (c .before .before .args .pool) (c .before .before .args .below) 1_000_000 (c .before .before .pre .1 .1)))
 
 returns : tie.Need-returns
 unfolding byFactor

@@ -6,11 +6,11 @@ use Rattle.amounts.proofs.shares.share.Statement.{statement}
 use Rattle.amounts.proofs.shares.share.Tie as tie
 
 mul-nearest : tie.Need-mul-nearest
-mul-nearest c = omega (arith, mul-le-mul {n₁ = c .args .pool} {m₁ = c .args .own} {n₂ = 50000000000} {m₂ = 100000000} (c .pre .0) (omega arith))
+mul-nearest c = omega (arith, mul-le-mul {n₁ = c .args .pool} {m₁ = c .args .own} {n₂ = 50_000_000_000} {m₂ = 100_000_000} (c .pre .0) (omega arith))
 
 nearest-requires : tie.Need-nearest-requires
 nearest-requires c κs =
-    (omega (arith, c .pre .1 .1 .0), omega (arith, mul-le-mul {n₁ = c .args .pool} {m₁ = c .args .own} {n₂ = 50000000000} {m₂ = 100000000} (c .pre .0) (omega arith)))
+    (omega (arith, c .pre .1 .1 .0), omega (arith, mul-le-mul {n₁ = c .args .pool} {m₁ = c .args .own} {n₂ = 50_000_000_000} {m₂ = 100_000_000} (c .pre .0) (omega arith)))
 
 returns : tie.Need-returns
 returns c = c .nearest .ensures

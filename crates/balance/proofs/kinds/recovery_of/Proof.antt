@@ -1,8 +1,8 @@
 -- `balance::kinds::recovery_of` meets its contract. The kind decides which pool, of those that the constraint has. Assumes nothing.
-use Rattle.balance.specs.Shapes.{poolBy, creditBy, chargeBy, recoveryOf}
+use Rattle.balance.specs.Inner.Shapes.{poolBy, creditBy, chargeBy, recoveryOf}
 use Rattle.balance.specs.Pools.{recovers}
 use Rattle.amounts.proofs.Sizes.{pools-small}
-use Rattle.balance.specs.Shapes.{poolBy, creditBy, chargeBy, recoveryOf}
+use Rattle.balance.specs.Inner.Shapes.{poolBy, creditBy, chargeBy, recoveryOf}
 use borrow.Author.Needs.{needs}
 use Rattle.balance.proofs.kinds.recovery_of.Statement.{statement}
 use Rattle.balance.proofs.kinds.recovery_of.Tie as tie

@@ -4,7 +4,7 @@ use native.Mathlib.Omega.{arith}
 use borrow.Author.Needs.{needs}
 use Rattle.book.specs.Book.{bookIn}
 use Rattle.book.proofs.Room.{energies-room}
-use Rattle.balance.specs.Rests.{ListsAre}
+use Rattle.balance.specs.Inner.Rests.{ListsAre}
 use Rattle.balance.proofs.Payments.{lists-none, lists-all, payable-at, charges-are}
 use Rattle.balance.proofs.pools.charges.Statement.{statement}
 use Rattle.balance.proofs.pools.charges.Tie as tie

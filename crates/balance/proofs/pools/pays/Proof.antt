@@ -6,7 +6,7 @@ use borrow.Author.Needs.{needs}
 use Rattle.sections.specs.Total.{total}
 use Rattle.sections.proofs.Total.{total-none, total-all}
 use Rattle.records.specs.Rows.{energyRow}
-use Rattle.balance.specs.Rests.{rowPays}
+use Rattle.balance.specs.Inner.Rests.{rowPays}
 use Rattle.balance.proofs.Payments.{pay-more, pay-small}
 use Rattle.balance.proofs.pools.pays.Statement.{statement}
 use Rattle.balance.proofs.pools.pays.Tie as tie

@@ -5,7 +5,7 @@ use native.Mathlib.Omega.{arith}
 use borrow.Author.Count.{below-none}
 use borrow.Author.Needs.{needs}
 use Rattle.sections.specs.First.{firstBad}
-use Rattle.sections.specs.Walk.{Under}
+use Rattle.sections.specs.Inner.Walk.{Under}
 use Rattle.sections.specs.declared.Checked.the-variants.{Good}
 use Rattle.sections.proofs.First.{first-none, first-more, first-stop, first-all}
 use Rattle.sections.proofs.Walk.{under-later}

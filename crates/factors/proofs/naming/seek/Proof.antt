@@ -3,7 +3,7 @@ use Prim.Native.Nat.{_≤_, _-_}
 use native.Mathlib.Omega.{arith}
 use borrow.Author.Count.{below-more}
 use borrow.Author.Needs.{needs}
-use Rattle.sections.specs.Walk.{Under}
+use Rattle.sections.specs.Inner.Walk.{Under}
 use Rattle.records.specs.Rows.{constraintRow}
 use Rattle.factors.specs.Naming.{idOf}
 use Rattle.factors.proofs.naming.seek.Statement.{statement}

@@ -4,7 +4,7 @@ use mathlib.Core.Path.{_≡_}
 use native.Mathlib.Omega.{arith}
 use borrow.Author.Needs.{needs}
 use Rattle.sections.specs.First.{firstBad}
-use Rattle.sections.specs.Walk.{Stands}
+use Rattle.sections.specs.Inner.Walk.{Stands}
 use Rattle.sections.specs.declared.Checked.the-variants.{Good}
 use Rattle.sections.proofs.First.{first-none, first-more, first-stop, first-all}
 use Rattle.sections.proofs.Walk.{stands-first, stands-next}
@@ -34,7 +34,7 @@ run-requires : tie.Need-run-requires Inv-loop μ-loop
 run-requires c κs = (search needs, (c .before .before .before .before .before .pre .1 .0, rw (c .constraint-row .ensures) (c .before .before .loop .inv .1 .1 (c .before .loop-test .taken))))
 
 sums-ok-requires : tie.Need-sums-ok-requires Inv-loop μ-loop
-sums-ok-requires c κs = let h = run-small _ _ _ (c .before .before .before .before .before .before .pre .1 .0) (c .run .ensures) in (h .plus, (h .minus, h .dcf))
+sums-ok-requires c κs = let h = run-small _ _ _ (c .before .before .before .before .before .before .pre .1 .0) (c .run .ensures) in (h .pcf, (h .ncf, h .dcf))
 
 returns : tie.Need-returns Inv-loop μ-loop
 returns c = first-stop _ _ _ (c .before .before .before .before .before .loop .inv .1 .0) (factors-is _ _ _ _ (c .before .before .before .constraint-row .ensures) (c .before .before .run .ensures) (c .before .sums-ok .ensures)) (c .if1 .taken) (search needs)

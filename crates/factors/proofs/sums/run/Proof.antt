@@ -23,7 +23,7 @@ returns : tie.Need-returns Inv-loop μ-loop
 returns c = summed-stop _ _ _ (c .before .before .before .before .before .before .before .pre .1 .0) (c .before .before .before .before .before .loop .inv) (c .before .before .before .if1 .taken) (c .before .before .unit-row .ensures) (c .if2 .taken)
 
 add-requires : tie.Need-add-requires Inv-loop μ-loop
-add-requires c κs = let h = summed-small _ _ _ (c .before .before .before .before .before .before .before .pre .1 .0) (c .before .before .before .before .before .loop .inv) in (omega (arith, c .before .before .before .before .before .before .before .pre .1 .0 .few), (omega (arith, h .plus), (omega (arith, h .minus), omega (arith, h .dcf))))
+add-requires c κs = let h = summed-small _ _ _ (c .before .before .before .before .before .before .before .pre .1 .0) (c .before .before .before .before .before .loop .inv) in (omega (arith, c .before .before .before .before .before .before .before .pre .1 .0 .few), (omega (arith, h .pcf), (omega (arith, h .ncf), omega (arith, h .dcf))))
 
 loop-less : tie.Need-loop-less Inv-loop μ-loop
 loop-less c = omega (arith, c .add .ensures .next)

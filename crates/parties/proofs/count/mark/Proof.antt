@@ -2,7 +2,7 @@
 use mathlib.Core.Path.{refl}
 use native.Mathlib.Omega.{arith}
 use borrow.Author.Needs.{needs}
-use Rattle.parties.specs.Chains.{markOf}
+use Rattle.parties.specs.Inner.Chains.{markOf}
 use Rattle.parties.proofs.count.mark.Statement.{statement}
 use Rattle.parties.proofs.count.mark.Tie as tie
 

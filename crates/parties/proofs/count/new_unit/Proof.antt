@@ -1,7 +1,7 @@
 -- `parties::count::new_unit` meets its contract. The search along the chain says whether the account is known; the row is then the last of its chain. Assumes nothing.
 use mathlib.Core.Path.{ap, _∙_}
 use borrow.Author.Needs.{needs}
-use Rattle.parties.specs.Chains.{markOf}
+use Rattle.parties.specs.Inner.Chains.{markOf}
 use Rattle.parties.proofs.Chains.{chained-more}
 use Rattle.parties.proofs.Counting.{seen-old, seen-new}
 use Rattle.parties.proofs.count.new_unit.Statement.{statement}

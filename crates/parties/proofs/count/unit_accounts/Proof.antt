@@ -6,7 +6,7 @@ use native.Mathlib.Omega.{arith}
 use borrow.Author.Needs.{needs}
 use lib.ListN.{length}
 use Rattle.records.specs.Rows.{unitRow}
-use Rattle.parties.specs.Chains.{Chained}
+use Rattle.parties.specs.Inner.Chains.{Chained}
 use Rattle.parties.specs.Once.{named}
 use Rattle.parties.specs.Parties.{unitAccount}
 use Rattle.parties.proofs.Counting.{count-none, count-seen, count-few}

@@ -1,6 +1,6 @@
 -- `parties::shares::by_basis` meets its contract. Each kind of energy by itself. Assumes nothing.
 use borrow.Author.Needs.{needs}
-use Rattle.parties.specs.Parties.{byBasis}
+use Rattle.parties.specs.Inner.Shares.{byBasis}
 use Rattle.parties.proofs.shares.by_basis.Statement.{statement}
 use Rattle.parties.proofs.shares.by_basis.Tie as tie
 

@@ -2,7 +2,7 @@
 use Prim.Native.Nat.{_+_, _-_, _/_}
 use native.Mathlib.Omega.{arith}
 use Rattle.sections.proofs.Halves.{Between, between-all, between-above, between-before, between-end}
-use Rattle.records.specs.Rows.{leadAt}
+use Rattle.records.specs.Inner.Lead.{leadAt}
 use Rattle.records.proofs.Read.{lead-slot}
 use Rattle.records.proofs.find.first_from.Statement.{statement}
 use Rattle.records.proofs.find.first_from.Tie as tie

@@ -59,17 +59,17 @@ add-u32-at-3 c = search needs
 u32-at-requires-4 : tie.Need-u32-at-requires-4
 u32-at-requires-4 c κs = search needs
 
-add-plus-at : tie.Need-add-plus-at
-add-plus-at c = search needs
+add-above-at : tie.Need-add-above-at
+add-above-at c = search needs
 
-plus-at-requires : tie.Need-plus-at-requires
-plus-at-requires c κs = search needs
+above-at-requires : tie.Need-above-at-requires
+above-at-requires c κs = search needs
 
-add-minus-at : tie.Need-add-minus-at
-add-minus-at c = search needs
+add-below-at : tie.Need-add-below-at
+add-below-at c = search needs
 
-minus-at-requires : tie.Need-minus-at-requires
-minus-at-requires c κs = search needs
+below-at-requires : tie.Need-below-at-requires
+below-at-requires c κs = search needs
 
 add-size-at : tie.Need-add-size-at
 add-size-at c = search needs
@@ -84,7 +84,7 @@ u32-at-requires-5 : tie.Need-u32-at-requires-5
 u32-at-requires-5 c κs = search needs
 
 returns : tie.Need-returns
-returns c = constraint-is _ _ _ (c .before .before .before .before .before .before .before .before .before .before .before .before .u32-at .ensures) refl refl refl refl (c .before .before .before .before .before .before .before .u64-at .ensures) (c .before .before .before .before .before .before .u32-at2 .ensures) (c .before .before .before .before .before .u32-at3 .ensures) (c .before .before .before .before .u32-at4 .ensures) (c .before .before .before .plus-at .ensures) (c .before .before .minus-at .ensures) (c .before .size-at .ensures) (c .u32-at5 .ensures)
+returns c = constraint-is _ _ _ (c .before .before .before .before .before .before .before .before .before .before .before .before .u32-at .ensures) refl refl refl refl (c .before .before .before .before .before .before .before .u64-at .ensures) (c .before .before .before .before .before .before .u32-at2 .ensures) (c .before .before .before .before .before .u32-at3 .ensures) (c .before .before .before .before .u32-at4 .ensures) (c .before .before .before .above-at .ensures) (c .before .before .below-at .ensures) (c .before .size-at .ensures) (c .u32-at5 .ensures)
 
 pub constraint-row-spec : {M : Type 1} → statement M
 constraint-row-spec =
@@ -108,10 +108,10 @@ constraint-row-spec =
     u32-at-requires-3
     add-u32-at-3
     u32-at-requires-4
-    add-plus-at
-    plus-at-requires
-    add-minus-at
-    minus-at-requires
+    add-above-at
+    above-at-requires
+    add-below-at
+    below-at-requires
     add-size-at
     size-at-requires
     add-u32-at-4

@@ -22,17 +22,17 @@ add-u32-at-2 c = search needs
 u32-at-requires-3 : tie.Need-u32-at-requires-3
 u32-at-requires-3 c κs = search needs
 
-add-plus-at : tie.Need-add-plus-at
-add-plus-at c = search needs
+add-above-at : tie.Need-add-above-at
+add-above-at c = search needs
 
-plus-at-requires : tie.Need-plus-at-requires
-plus-at-requires c κs = search needs
+above-at-requires : tie.Need-above-at-requires
+above-at-requires c κs = search needs
 
-add-minus-at : tie.Need-add-minus-at
-add-minus-at c = search needs
+add-below-at : tie.Need-add-below-at
+add-below-at c = search needs
 
-minus-at-requires : tie.Need-minus-at-requires
-minus-at-requires c κs = search needs
+below-at-requires : tie.Need-below-at-requires
+below-at-requires c κs = search needs
 
 add-size-at : tie.Need-add-size-at
 add-size-at c = search needs
@@ -53,10 +53,10 @@ unit-row-spec =
     u32-at-requires-2
     add-u32-at-2
     u32-at-requires-3
-    add-plus-at
-    plus-at-requires
-    add-minus-at
-    minus-at-requires
+    add-above-at
+    above-at-requires
+    add-below-at
+    below-at-requires
     add-size-at
     size-at-requires
     returns)

@@ -7,7 +7,7 @@ use Rattle.records.proofs.rules.product.Statement.{statement}
 use Rattle.records.proofs.rules.product.Tie as tie
 
 mul-result : tie.Need-mul-result
-mul-result c = omega (arith, mul-le-mul {n₁ = c .args .a} {m₁ = c .args .b} {n₂ = 4294967295} {m₂ = 4294967295} (search needs) (search needs))
+mul-result c = omega (arith, mul-le-mul {n₁ = c .args .a} {m₁ = c .args .b} {n₂ = 4_294_967_295} {m₂ = 4_294_967_295} (search needs) (search needs))
 
 returns : tie.Need-returns
 returns c = search needs

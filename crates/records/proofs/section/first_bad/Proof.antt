@@ -6,7 +6,7 @@ use borrow.Author.Needs.{needs}
 use Rattle.sections.specs.First.{firstBad}
 use Rattle.sections.specs.declared.Checked.the-variants.{Good}
 use Rattle.sections.proofs.First.{first-none, first-more, first-stop, first-all}
-use Rattle.records.specs.Checks.{passes}
+use Rattle.records.specs.Inner.Checks.{passes}
 use Rattle.records.proofs.Read.{slot}
 use Rattle.records.proofs.section.first_bad.Statement.{statement}
 use Rattle.records.proofs.section.first_bad.Tie as tie

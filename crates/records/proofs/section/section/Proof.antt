@@ -4,12 +4,12 @@ use native.Mathlib.Omega.{arith}
 use borrow.Author.Needs.{needs}
 use Rattle.records.specs.declared.section.Check.the-variants.{EntryFields, ConstraintFields, UnitFields, EnergyFields, ContractFields, ConstraintOrder, UnitOrder, EnergyOrder, ContractOrder}
 use Rattle.records.specs.declared.section.Check.{Check}
-use Rattle.records.specs.Checks.{sizeOf, sectionVerdict}
+use Rattle.records.specs.Inner.Checks.{recordSize, sectionVerdict}
 use Rattle.sections.proofs.Refusal.{bad-within}
 use Rattle.records.proofs.section.section.Statement.{statement}
 use Rattle.records.proofs.section.section.Tie as tie
 
-size-small : (k : Check) → sizeOf k ≤ 64
+size-small : (k : Check) → recordSize k ≤ 64
 size-small EntryFields = omega arith
 size-small ConstraintFields = omega arith
 size-small UnitFields = omega arith

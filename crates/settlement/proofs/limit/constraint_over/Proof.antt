@@ -1,6 +1,6 @@
 -- `settlement::limit::constraint_over` meets its contract. The FPP pool is the definition's. Assumes nothing.
 use borrow.Author.Needs.{needs}
-use Rattle.settlement.specs.Limits.{constraintOver}
+use Rattle.settlement.specs.Inner.Limits.{constraintOver}
 use Rattle.settlement.proofs.limit.constraint_over.Statement.{statement}
 use Rattle.settlement.proofs.limit.constraint_over.Tie as tie
 

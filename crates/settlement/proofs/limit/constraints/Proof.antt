@@ -4,7 +4,7 @@ use mathlib.Core.Path.{_≡_}
 use native.Mathlib.Omega.{arith}
 use Rattle.sections.specs.Search.{some}
 use Rattle.records.specs.Rows.{constraintRow}
-use Rattle.settlement.specs.Limits.{constraintOver}
+use Rattle.settlement.specs.Inner.Limits.{constraintOver}
 use Rattle.settlement.proofs.UnderLimit.{some-start, some-more, some-all}
 use Rattle.settlement.proofs.limit.constraints.Statement.{statement}
 use Rattle.settlement.proofs.limit.constraints.Tie as tie

@@ -4,7 +4,7 @@ use mathlib.Core.Path.{_≡_}
 use native.Mathlib.Omega.{arith}
 use Rattle.sections.specs.Search.{some}
 use Rattle.records.specs.Rows.{contractRow}
-use Rattle.settlement.specs.Limits.{contractOver}
+use Rattle.settlement.specs.Inner.Limits.{contractOver}
 use Rattle.settlement.proofs.UnderLimit.{some-start, some-more, some-all}
 use Rattle.settlement.proofs.limit.contracts.Statement.{statement}
 use Rattle.settlement.proofs.limit.contracts.Tie as tie

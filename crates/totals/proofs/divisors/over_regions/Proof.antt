@@ -5,14 +5,14 @@ use native.Mathlib.Omega.{arith}
 use borrow.Author.Needs.{needs}
 use Rattle.sections.specs.Total.{total}
 use Rattle.sections.proofs.Total.{total-none, total-more, total-all, total-room}
-use Rattle.totals.specs.Divisors.{shareOf}
+use Rattle.totals.specs.Divisors.{countedIn}
 use Rattle.totals.proofs.Turns.{share-small}
-use Rattle.totals.specs.Totals.{entryOf}
+use Rattle.totals.specs.Inner.Totals.{entryOf}
 use Rattle.totals.proofs.divisors.over_regions.Statement.{statement}
 use Rattle.totals.proofs.divisors.over_regions.Tie as tie
 
 abbrev Inv-loop : tie.InvT-loop
-Inv-loop t r sum₀ g₀ sum g = (g ≤ 5) × (sum ≡ total (λ k. shareOf r (entryOf t k) k) g)
+Inv-loop t r sum₀ g₀ sum g = (g ≤ 5) × (sum ≡ total (λ k. countedIn r (entryOf t k) k) g)
 
 abbrev μ-loop : tie.MeasureT-loop
 μ-loop t r sum₀ g₀ sum g = 5 - g
@@ -24,7 +24,7 @@ counted-requires : tie.Need-counted-requires Inv-loop μ-loop
 counted-requires c κs = search needs
 
 add-sum : tie.Need-add-sum Inv-loop μ-loop
-add-sum c = omega (arith, total-room _ 20000000 5 (λ k l. share-small _ _ k (c .before .before .before .pre k l)) _ (c .before .before .loop .inv .1) (c .counted .ensures) (c .before .loop-test .taken))
+add-sum c = omega (arith, total-room _ 20_000_000 5 (λ k l. share-small _ _ k (c .before .before .before .pre k l)) _ (c .before .before .loop .inv .1) (c .counted .ensures) (c .before .loop-test .taken))
 
 add-g : tie.Need-add-g Inv-loop μ-loop
 add-g c = search needs

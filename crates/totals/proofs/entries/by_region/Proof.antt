@@ -3,9 +3,9 @@ use Prim.Native.Nat.{_≤_, _-_}
 use mathlib.Core.Path.{_≡_}
 use native.Mathlib.Omega.{arith}
 use borrow.Author.Needs.{needs}
-use Rattle.records.specs.Facts.{EnergyRule}
+use Rattle.records.specs.Inner.Facts.{EnergyRule}
 use Rattle.records.specs.Rows.{energyRow}
-use Rattle.totals.specs.Turns.{TotalsOf}
+use Rattle.totals.specs.Inner.Turns.{TotalsOf}
 use Rattle.totals.proofs.Turns.{totals-none, totals-more, totals-small}
 use Rattle.totals.proofs.entries.by_region.Statement.{statement}
 use Rattle.totals.proofs.entries.by_region.Tie as tie

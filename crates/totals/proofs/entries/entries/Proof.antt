@@ -7,13 +7,13 @@ use Rattle.sections.specs.First.{firstBad}
 use Rattle.sections.specs.declared.Checked.the-variants.{Good}
 use Rattle.sections.proofs.First.{first-none, first-more, first-stop, first-all}
 use Rattle.records.specs.Rows.{entryRow, energyRow}
-use Rattle.totals.specs.Sums.{entryAt}
+use Rattle.totals.specs.Sums.{entryHasSums}
 use Rattle.totals.proofs.Turns.{entry-is-at}
 use Rattle.totals.proofs.entries.entries.Statement.{statement}
 use Rattle.totals.proofs.entries.entries.Tie as tie
 
 abbrev Inv-loop : tie.InvT-loop
-Inv-loop regions energy n t g₀ g = (g ≤ 5) × (firstBad (entryAt (energyRow energy) n (entryRow regions)) g ≡ Good)
+Inv-loop regions energy n t g₀ g = (g ≤ 5) × (firstBad (entryHasSums (energyRow energy) n (entryRow regions)) g ≡ Good)
 
 abbrev μ-loop : tie.MeasureT-loop
 μ-loop regions energy n t g₀ g = 5 - g

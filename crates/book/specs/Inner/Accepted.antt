@@ -1,0 +1,90 @@
+-- What an accepted book promises, for whoever builds on it: no check need be opened again.
+use Prim.Native.Nat.{ℕ, _+_, _≤_, _<_}
+use mathlib.Core.Path.{_≡_}
+use mathlib.Core.Bool.{true, _&&_, cond}
+use mathlib.Core.List.{List}
+use lib.Dec.{eqb}
+use lib.ListN.{length}
+use Rattle.sections.specs.Total.{total, totalOf}
+use Rattle.calendar.specs.Calendar.{isPeriod}
+use Rattle.records.specs.Rules.{factorOf}
+use Rattle.records.specs.declared.rows.Entry.{Entry}
+use Rattle.records.specs.declared.rows.UnitRow.{UnitRow}
+use Rattle.records.specs.declared.rows.EnergyRow.{EnergyRow}
+use Rattle.factors.specs.Inner.Facts.{Owner}
+use Rattle.factors.specs.Factors.{sumOver}
+use Rattle.factors.specs.Inner.Facts.{Whole, Plain}
+use Rattle.totals.specs.Sums.{regionOf, aceOf, asoeOf, teOf}
+use Rattle.totals.specs.Inner.Facts.{SumsTo}
+use Rattle.totals.specs.Divisors.{overRegions}
+use Rattle.totals.specs.Inner.Facts.{Funded}
+use Rattle.book.specs.Header.{headerOf, wholeLength}
+use Rattle.book.specs.Book.{Book, bookOf}
+use Rattle.book.specs.Inner.Facts.{Few, Fields, Ordered}
+
+-- the sum of a number over the energy rows of one account in one region
+unfoldable pub ownTotal : Book → ℕ → ℕ → (EnergyRow → ℕ) → ℕ
+ownTotal B account g f =
+    total (λ i. cond (eqb (B .energy i .account) account && eqb (B .energy i .region) g) (f (B .energy i)) 0) (B .header .energies)
+
+-- an account's own energy in a region is at most the region's total: x, y, z are its ACE, ASOE and residual energy there, by their sizes
+pub record AtMostEntry (e : Entry) (x y z : ℕ) : Type 0 where
+  pub ace : x ≤ e .ace
+  pub asoe : y ≤ e .asoe
+  pub residual : z ≤ e .residual
+
+-- an account's own energy in region g is at most the region's
+abbrev pub OwnAtMost : Book → ℕ → ℕ → Type 0
+OwnAtMost B account g =
+    AtMostEntry (B .entry g)
+    (ownTotal B account g (λ r. r .ace))
+    (ownTotal B account g (λ r. r .asoe))
+    (ownTotal B account g (λ r. r .race + r .rasoe))
+
+-- the sum of a number over the unit rows of constraint j
+abbrev pub unitTotal : Book → ℕ → (UnitRow → ℕ) → ℕ
+unitTotal B j f = sumOver (B .unit) (B .header .units) (B .constraint j .id) f
+
+-- constraint j's factors with its units' make one, or in default mode there are none but default factors
+abbrev pub WholeAt : Book → ℕ → Type 0
+WholeAt B j = Whole (B .constraint j) (unitTotal B j (λ r. r .pcf)) (unitTotal B j (λ r. r .ncf)) (unitTotal B j (λ r. r .dcf))
+
+abbrev pub PlainAt : Book → ℕ → Type 0
+PlainAt B j = Plain (B .constraint j) (unitTotal B j (λ r. r .pcf)) (unitTotal B j (λ r. r .ncf)) (unitTotal B j (λ r. r .dcf))
+
+-- region g's entry is the sum of its rows
+abbrev pub EntrySumsAt : Book → ℕ → Type 0
+EntrySumsAt B g =
+    SumsTo (B .entry g)
+    (totalOf (regionOf (B .energy)) g (aceOf (B .energy)) (B .header .energies))
+    (totalOf (regionOf (B .energy)) g (asoeOf (B .energy)) (B .header .energies))
+    (totalOf (regionOf (B .energy)) g (teOf (B .energy)) (B .header .energies))
+
+-- of its records
+pub record Promise (B : Book) : Type 0 where
+  -- the counts are small, and date, interval and run are in range
+  pub few : Few (B .header)
+  pub period : isPeriod (B .header .interval) (B .header .date) (B .header .run) ≡ true
+  -- each record keeps its rule
+  pub fields : Fields B
+  -- each section rises
+  pub ordered : Ordered B
+  -- each unit row has its constraint, and not one of mode 0
+  pub owner : (u : ℕ) → u < B .header .units → Owner (B .constraint) (B .header .constraints) (B .unit) u
+  -- the factors of a factored constraint are whole
+  pub factored : (j : ℕ) → j < B .header .constraints → B .constraint j .mode ≡ 1 → WholeAt B j
+  -- one in default mode has no factors, and its default factors are whole
+  pub default : (j : ℕ) → j < B .header .constraints → B .constraint j .mode ≡ 2 → PlainAt B j
+  -- a region's entry is the sum of its rows
+  pub entry : (g : ℕ) → g < 5 → EntrySumsAt B g
+  -- what a constraint divides by is not 0
+  pub divisor : (j : ℕ) → j < B .header .constraints → 0 < overRegions (B .entry) (B .constraint j)
+  -- nor are the totals of a region that a contract benefits
+  pub funded : (k : ℕ) → k < B .header .contracts → (g : ℕ) → g < 5 → (factorOf (B .contract k .factors) g ≡ 0 → ⊥) → Funded (B .entry g)
+  -- and hence an account's own energy never passes the region's total
+  pub own : (account g : ℕ) → g < 5 → OwnAtMost B account g
+
+-- of its bytes
+pub record AcceptedBook (b : List ℕ) : Type 0 where
+  pub long : length b ≡ wholeLength (headerOf b)
+  pub promise : Promise (bookOf b)

@@ -1,0 +1,7 @@
+-- What contracts of inner functions and of functions between the crates speak of, and no promise to a caller outside.
+pub mod Every
+pub mod Le
+pub mod Put
+pub mod Round
+pub mod Sizes
+pub mod Each
