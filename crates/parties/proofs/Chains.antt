@@ -1,4 +1,4 @@
--- Records in chains by mark: how the chains grow, and what a walk along one of them finds. Assumes nothing.
+-- The chains of a hash table's buckets: how they grow, and what a walk along one of them finds. Assumes nothing.
 use Prim.Native.Nat.{ℕ, _+_, _-_, _≤_, _<_}
 use mathlib.Core.Path.{_≡_, refl, _∙_, sym, ap}
 use mathlib.Core.List.{List}
@@ -32,7 +32,7 @@ module _ (name : ℕ → ℕ) where
         links = λ j l. absurd (omega arith);
       }
 
-  -- record u is the last of its own mark
+  -- record u is the last of its own bucket
   last-own : (u h : ℕ) {p : ℕ} → p ≡ u + 1 → markOf (name u) ≡ h → Last name (u + 1) h p
   last-own u h {p} e q =
       record { within = omega arith; own = λ k z. let y : k ≡ u = omega arith in rw y q; rest = λ k l m z. absurd (omega arith) }

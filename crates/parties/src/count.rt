@@ -1,6 +1,7 @@
 // The accounts of a book: each that an energy row or a unit row names, counted once.
-// The unit rows come first, each linked to the one of its mark before it, so that an account is looked for among few of them. The
-// energy rows are sorted by account, and each account of theirs is looked for once among the unit rows.
+// The unit rows come first, in a hash table: an account is hashed to one of 1,024 buckets, and the rows of a bucket are linked in a chain,
+// each to the one before it, so that an account is looked for among few of them. The energy rows are sorted by account, and each account of
+// theirs is looked up once.
 ghost use mathlib.Core.Path.{_≡_};
 ghost use mathlib.Core.List.{[]};
 ghost use Prim.Native.Nat.{_+_, _*_, _≤_, _<_};
@@ -25,14 +26,14 @@ fn unit_account(units: &[u8], u: usize) -> u32
     read::u32_at(units, u * 20 + 8)
 }
 
-// The chain in which rows of an account stand.
+// The hash of an account: the bucket in whose chain its rows stand.
 fn mark(a: u32) -> usize
     ensures { λ h. ⌜ (h ≡ markOf a) × (h < 1024) ⌝ }
 {
     ((a as u64) * 2654435761 / 4194304 % 1024) as usize
 }
 
-// Unit row u put at the end of chain h.
+// Unit row u put at the end of the chain of bucket h.
 fn link(last: &mut [u16; 1024], before: &mut [u16; 600], h: usize, u: usize)
     requires { ⌜ (h < 1024) × (u < 600) ⌝ }
     ensures { λ _. ⌜ now (last .exit) ≡ set (now (last .entry)) h (u + 1) ⌝ }
