@@ -510,6 +510,10 @@ fn a_picture_without_a_crate_is_noticed() {
         watch.notices("nothing, which is no crate", |changed| {
             replace(changed, stack::PAGE, &drawn, "[nothing]");
         });
+        watch.notices(&format!("no line of {name}"), |changed| {
+            let line = format!("\n    crates/{name} ");
+            replace(changed, stack::PAGE, &line, "\n    crates/nothing ");
+        });
         watch.notices("newcrate 0 times", |changed| {
             let line = format!("\n{name}:");
             replace(changed, "crates.txt", &line, &format!("\nnewcrate:{line}"));

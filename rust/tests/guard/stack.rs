@@ -1,5 +1,6 @@
 //! The guard of README's picture of the crates, `[name]` each: that it has every crate of
-//! `crates.txt` just once, and each on a line above all that it uses.
+//! `crates.txt` just once, and each on a line above all that it uses; and that the list
+//! below it has a line for each.
 
 use crate::repository::Repository;
 
@@ -8,11 +9,14 @@ pub const PAGE: &str = "README.md";
 /// The section that has the picture.
 const TITLE: &str = "\n## Layout\n";
 
+fn section(repository: &Repository) -> &str {
+    let (_, section) = repository.text(PAGE).split_once(TITLE).unwrap_or_default();
+    section.split("\n## ").next().unwrap_or(section)
+}
+
 /// The crates of the picture, and the line of the section that each stands on.
 fn drawn(repository: &Repository) -> Vec<(&str, usize)> {
-    let (_, section) = repository.text(PAGE).split_once(TITLE).unwrap_or_default();
-    let section = section.split("\n## ").next().unwrap_or(section);
-    let lines = section.lines().zip(1..);
+    let lines = section(repository).lines().zip(1..);
     lines
         .flat_map(|(line, at)| bracketed(line).map(move |name| (name, at)))
         .collect()
@@ -48,6 +52,9 @@ pub fn unlike_the_crates(repository: &Repository) -> Vec<String> {
         let count = drawn.iter().filter(|(known, _)| known == name).count();
         if count != 1 {
             unlike.push(format!("{PAGE}'s picture has {name} {count} times"));
+        }
+        if !section(repository).contains(&format!("\n    crates/{name} ")) {
+            unlike.push(format!("{PAGE}'s list has no line of {name}"));
         }
     }
     for (name, _) in drawn.iter().filter(|(name, _)| !crates.contains(name)) {
