@@ -1,12 +1,13 @@
 // The accounts of a book: each that an energy row or a unit row names, counted once.
-// The unit rows come first, each linked to the one of its mark before it, so that an account is looked for among few of them. The
-// energy rows are sorted by account, and each account of theirs is looked for once among the unit rows.
+// The unit rows come first, in a hash table: an account is hashed to one of 1,024 buckets, and the rows of a bucket are linked in a chain,
+// each to the one before it, so that an account is looked for among few of them. The energy rows are sorted by account, and each account of
+// theirs is looked up once.
 ghost use mathlib.Core.Path.{_≡_};
 ghost use mathlib.Core.List.{[]};
 ghost use Prim.Native.Nat.{_+_, _*_, _≤_, _<_};
 ghost use lib.ListN.{length, getD, set};
 ghost use Rattle.records.specs.Rows.{energyRow, unitRow};
-ghost use Rattle.parties.specs.Inner.Chains.{markOf, Chained};
+ghost use Rattle.parties.specs.Inner.Chains.{bucketOf, Chained};
 ghost use Rattle.parties.specs.Once.{has, named};
 ghost use Rattle.parties.specs.Inner.Seen.{seen, newly};
 ghost use Rattle.parties.specs.Parties.{energyAccount, unitAccount, accountsIn};
@@ -27,14 +28,14 @@ fn unit_account(units: &[u8], u: usize) -> u32
     read::u32_at(units, u * 20 + 8)
 }
 
-// The chain in which rows of an account stand.
-fn mark(a: u32) -> usize
-    ensures { λ h. ⌜ (h ≡ markOf a) × (h < 1024) ⌝ }
+// The hash of an account: the bucket in whose chain its rows stand.
+fn bucket(a: u32) -> usize
+    ensures { λ h. ⌜ (h ≡ bucketOf a) × (h < 1024) ⌝ }
 {
     ((a as u64) * 2_654_435_761 / 4_194_304 % 1024) as usize
 }
 
-// Unit row u put at the end of chain h.
+// Unit row u put at the end of the chain of bucket h.
 fn link(last: &mut [u16; 1024], before: &mut [u16; 600], h: usize, u: usize)
     requires { ⌜ (h < 1024) × (u < 600) ⌝ }
     ensures { λ _. ⌜ now (last .exit) ≡ set (now (last .entry)) h (u + 1) ⌝ }
@@ -50,7 +51,7 @@ fn in_units(units: &[u8], u: usize, last: &[u16; 1024], before: &[u16; 600], a: 
     requires { ⌜ Chained (unitAccount (unitRow (now units))) u (now last) (now before) ⌝ }
     ensures { λ b. ⌜ b ≡ seen (unitAccount (unitRow (now (units .entry)))) u a ⌝ }
 {
-    let mut p = last[mark(a)] as usize;
+    let mut p = last[bucket(a)] as usize;
     while 0 < p {
         if unit_account(units, p - 1) == a {
             return true;
@@ -69,7 +70,7 @@ fn new_unit(units: &[u8], u: usize, last: &mut [u16; 1024], before: &mut [u16; 6
 {
     let a = unit_account(units, u);
     let known = in_units(units, u, last, before, a);
-    link(last, before, mark(a), u);
+    link(last, before, bucket(a), u);
     if known {
         return 0;
     }

@@ -45,7 +45,8 @@ fn by_basis(basis: Basis, r: EnergyRow) -> u64
     }
 }
 
-// The energy of a row that a part counts. It is a product and no branch, since which rows a part counts is hard to foresee.
+// The energy of a row that a part counts. It is a product and no branch: which rows a part counts, the processor's branch prediction would
+// often guess wrong.
 fn energy_in(p: Part, r: EnergyRow) -> u64
     requires { ⌜ EnergyRule r ⌝ }
     ensures { λ x. ⌜ x ≡ energyIn p r ⌝ }

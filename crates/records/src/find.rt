@@ -1,4 +1,4 @@
-// A record of a sorted section, found by halves. A record starts with the number that its section is sorted by first.
+// A record of a sorted section, found by binary search. A record starts with the number that its section is sorted by first.
 ghost use mathlib.Core.Path.{_≡_};
 ghost use Prim.Native.Nat.{_*_, _≤_};
 ghost use lib.ListN.{length};

@@ -162,7 +162,8 @@ fn shared<const SLOTS: usize>(
     let count = accounts.with_energies(
         rows,
         |row| {
-            // By product, as whether a row's region is asked for is hard to foresee.
+            // A product and no branch, as whether a row's region is asked for would
+            // often be mispredicted.
             let is_in = u64::from(regions >> row[4] & 1);
             own.set(own.get() + is_in * u64::from(energy(row)));
         },

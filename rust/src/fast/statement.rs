@@ -1,6 +1,6 @@
 //! The statement of an account. Unit rows are passed once by the check, which counts
 //! the account's on the way, and once to write; the account's energy rows, side by
-//! side in their order, are found by halves.
+//! side in their order, are found by binary search.
 
 use std::slice::IterMut;
 

@@ -5,7 +5,7 @@
 use std::collections::BTreeMap;
 
 use crate::page::prose;
-use crate::promises::{function_rows, names_in, PAGE};
+use crate::promises::{function_items, names_in, PAGE};
 use crate::rattle::{all_functions, line_at, reached, with_helpers, Function};
 use crate::repository::Repository;
 
@@ -44,13 +44,11 @@ fn named_in(list: &str) -> Vec<Named> {
     named
 }
 
-/// The edits that the page names: in the tables, and behind "Edits:" in a sentence.
+/// The edits that the page names: behind "Edits:", in a note or in a sentence.
 fn all_named(repository: &Repository) -> Vec<String> {
-    let rows = function_rows(repository);
-    let cells = rows.iter().filter_map(|row| row.cell("Edits"));
     let sentences = prose(repository.text(PAGE)).filter_map(|line| line.split_once("Edits: "));
     let lists = sentences.map(|(_, rest)| rest.split(". ").next().unwrap_or(rest));
-    let named = cells.chain(lists).flat_map(named_in);
+    let named = lists.flat_map(named_in);
     named.map(|named| named.edit).collect()
 }
 
@@ -160,24 +158,24 @@ fn why_unfit(repository: &Repository, edit: &str) -> Option<String> {
     None
 }
 
-/// Edits that a row names and that edit none of its functions, nor their helpers. What
-/// is meant by another function's edit says so, `(of NAME)`, and one of the row's
+/// Edits that an item names and that edit none of its functions, nor their helpers. What
+/// is meant by another function's edit says so, `(of NAME)`, and one of the item's
 /// functions has to call that one.
 pub fn of_other_functions(repository: &Repository) -> Vec<String> {
     let all = all_functions(repository);
     let mut complaints = Vec::new();
-    for row in function_rows(repository) {
-        let names = names_in(&row);
-        let of_row = all.iter().filter(|function| is_one_of(function, &names));
-        let of_row: Vec<&Function> = of_row.collect();
-        for named in row.cell("Edits").map(named_in).unwrap_or_default() {
+    for item in function_items(repository) {
+        let names = names_in(&item);
+        let of_item = all.iter().filter(|function| is_one_of(function, &names));
+        let of_item: Vec<&Function> = of_item.collect();
+        for named in item.note("Edits").map(named_in).unwrap_or_default() {
             let edit = Edit {
                 repository,
                 all: &all,
                 named,
             };
-            let why = edit.why_of_others(&of_row);
-            let about = format!("{} ({}): ", edit.named.edit, row.first());
+            let why = edit.why_of_others(&of_item);
+            let about = format!("{} ({}): ", edit.named.edit, item.front);
             complaints.extend(why.map(|why| about + &why));
         }
     }
@@ -188,7 +186,7 @@ fn is_one_of(function: &Function, names: &[String]) -> bool {
     function.is_public && names.iter().any(|name| function.is_named(name))
 }
 
-/// An edit that a row names.
+/// An edit that an item names.
 struct Edit<'a> {
     repository: &'a Repository,
     all: &'a [Function],
@@ -196,20 +194,20 @@ struct Edit<'a> {
 }
 
 impl<'a> Edit<'a> {
-    fn why_of_others(&self, of_row: &[&'a Function]) -> Option<String> {
+    fn why_of_others(&self, of_item: &[&'a Function]) -> Option<String> {
         let replacements = replacements(self.repository, &self.named.edit);
         let edits_definition = |of: &Replacement| of.file.contains("/specs/");
         if replacements.is_empty() || replacements.iter().any(edits_definition) {
             return None;
         }
         let Some(of) = &self.named.of else {
-            let functions = with_helpers(self.all, of_row);
+            let functions = with_helpers(self.all, of_item);
             return self.why_not_in(&replacements, &functions);
         };
-        let called = reached(self.all, of_row, |_, _| true);
+        let called = reached(self.all, of_item, |_, _| true);
         let of: Vec<&Function> = called.into_iter().filter(|one| one.is_named(of)).collect();
         if of.is_empty() {
-            return Some("the row's functions do not call what it is of".to_owned());
+            return Some("the item's functions do not call what it is of".to_owned());
         }
         let functions = with_helpers(self.all, &of);
         self.why_not_in(&replacements, &functions)

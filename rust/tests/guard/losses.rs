@@ -8,8 +8,10 @@ use crate::edits;
 use crate::promises;
 use crate::rattle::{public_functions, Function};
 use crate::repository::Repository;
+use crate::stack;
 use crate::strays;
 use crate::theorems;
+use crate::word_for_word::entry;
 
 type Guard = fn(&Repository) -> Vec<String>;
 
@@ -233,6 +235,128 @@ fn a_public_function_that_is_no_longer_there_is_noticed() {
     }
 }
 
+/// Changes the page of the promises from a text, which stands there once, to another.
+fn on_the_page(old: &str, new: &str) -> impl Fn(&mut Repository) {
+    let [old, new] = [old, new].map(str::to_owned);
+    move |changed| replace(changed, promises::PAGE, &old, &new)
+}
+
+#[test]
+fn a_heading_that_is_lost_is_noticed() {
+    let repository = Repository::read();
+    let watch = Watch::over(&repository, promises::headings_unlike_the_crates);
+    for name in repository.crates() {
+        let heading = format!("\n## {name}\n\n");
+        for other in [
+            "\n",
+            "\n## nothing\n\n",
+            &format!("{heading}It.\n{heading}"),
+        ] {
+            watch.notices(name, on_the_page(&heading, other));
+        }
+        watch.notices("nothing", on_the_page(&heading, "\n## nothing\n\n"));
+        let unsaid = format!("{heading}- ");
+        watch.notices(
+            &format!("what {name} promises"),
+            on_the_page(&heading, &unsaid),
+        );
+        watch.notices("newcrate", |changed| {
+            let line = format!("\n{name}:");
+            let lines = format!("\nnewcrate:\n{name}:");
+            replace(changed, "crates.txt", &line, &lines);
+        });
+    }
+    watch.notices("parties where walk", |changed| {
+        for (old, new) in [("walk", "one"), ("parties", "walk"), ("one", "parties")] {
+            let [old, new] = [old, new].map(|name| format!("\n## {name}\n"));
+            replace(changed, promises::PAGE, &old, &new);
+        }
+    });
+}
+
+/// In the page, and not in the code.
+#[test]
+fn a_contract_that_the_page_has_otherwise_is_noticed() {
+    let repository = Repository::read();
+    let watch = Watch::over(&repository, promises::differing_contracts);
+    let functions = public_functions(&repository);
+    for function in &functions {
+        let entry = format!("\n{}\n", entry(function));
+        watch.notices(&function.path, on_the_page(&entry, "\n"));
+    }
+    let function = &functions[0];
+    let (path, entry) = (&function.path, entry(function));
+    let weaker = format!("{path}{}", function.signature);
+    watch.notices(path, on_the_page(&entry, &weaker));
+    watch.notices(path, on_the_page(&entry, &format!("{entry}\n{entry}")));
+    let heading = "\n## ground\n";
+    assert_ne!(function.crate_name(), "ground");
+    watch.notices("not as it would be printed", |changed| {
+        replace(changed, promises::PAGE, &format!("\n{entry}\n"), "\n");
+        let moved = format!("{heading}\n```\n{entry}\n```\n");
+        replace(changed, promises::PAGE, heading, &moved);
+    });
+    let behind = format!("\nWords behind a block.\n{heading}");
+    watch.notices("Words behind a block", on_the_page(heading, &behind));
+    watch.notices("its end", |changed| {
+        append(changed, promises::PAGE, "Words.\n")
+    });
+}
+
+#[test]
+fn a_function_that_the_page_no_longer_names_is_noticed() {
+    let repository = Repository::read();
+    let watch = Watch::over(&repository, promises::functions_unnamed);
+    for item in promises::function_items(&repository) {
+        for name in promises::names_in(&item) {
+            let front = format!("\n- {}: ", item.front);
+            watch.notices(&name, on_the_page(&front, "\n- "));
+            let heading = format!("\n## {}\n", item.heading);
+            let other = on_the_page(&heading, "\n## another\n");
+            watch.notices(&format!("{name} under another"), other);
+        }
+    }
+}
+
+#[test]
+fn an_item_that_no_longer_says_what_is_asked_is_noticed() {
+    let repository = Repository::read();
+    let watch = Watch::over(&repository, promises::asked_unlike_the_code);
+    for item in promises::function_items(&repository) {
+        watch.notices(item.front, |changed| {
+            rewrite(changed, promises::PAGE, |page| {
+                let at = page
+                    .find(&format!("\n- {}: ", item.front))
+                    .expect("it has the item");
+                let (before, rest) = page.split_at(at);
+                let asks = match item.note("Asks") {
+                    Some("nothing") => "  - Asks: something",
+                    _ => "  - Asks: nothing",
+                };
+                before.to_owned() + &rest.replacen("  - Asks:", &format!("{asks}\n  - "), 1)
+            });
+        });
+    }
+}
+
+#[test]
+fn an_edit_that_the_page_no_longer_names_is_noticed() {
+    let repository = Repository::read();
+    let watch = Watch::over(&repository, edits::unnamed_or_lost);
+    for [_, crate_name, name] in edit_files(&repository) {
+        let about = format!("does not name the edit {crate_name}/{name}");
+        watch.notices(&about, |changed| {
+            rewrite(changed, promises::PAGE, |page| {
+                let lines = page.lines().map(|line| match line.split_once("Edits: ") {
+                    Some((front, list)) => format!("{front}Edits: {}", list.replace(&name, "")),
+                    None => line.to_owned(),
+                });
+                lines.map(|line| line + "\n").collect()
+            });
+        });
+    }
+}
+
 /// Path, crate and name of each edit.
 fn edit_files(repository: &Repository) -> Vec<[String; 3]> {
     let files = repository.between("crates/", ".edit");
@@ -306,7 +430,7 @@ const HIGH: &str =
 
 /// An edit of the crate `low`, listed for a function.
 fn listed(edit: &str, function: &str, name: &str) -> Repository {
-    let page = format!("| Function | Edits |\n|---|---|\n| `{function}` | {name} |\n");
+    let page = format!("## low\n\n- `{function}`: its result\n  - Edits: {name}\n");
     repository_of(&[
         ("crates/low/src/lib.rt", LOW),
         ("crates/high/src/lib.rt", HIGH),
@@ -363,6 +487,58 @@ fn an_edit_that_does_not_fit_is_noticed() {
         let complaints = edits::unfit(&listed(edit, "low::second", "low/wrong"));
         assert_eq!(complaints.len(), 1, "{edit}");
     }
+}
+
+/// README's picture with a crate's name taken out, and another text in some place.
+fn redraw(repository: &mut Repository, name: &str, beside: &str, text: &str) {
+    let drawn = |name: &str| format!("[{name}]");
+    replace(repository, stack::PAGE, &drawn(name), "");
+    replace(repository, stack::PAGE, &drawn(beside), text);
+}
+
+#[test]
+fn a_picture_without_a_crate_is_noticed() {
+    let repository = Repository::read();
+    let watch = Watch::over(&repository, stack::unlike_the_crates);
+    for name in repository.crates() {
+        let drawn = format!("[{name}]");
+        for other in [name, "[]", &format!("{drawn}  {drawn}")] {
+            watch.notices(&format!("{name} "), |changed| {
+                replace(changed, stack::PAGE, &drawn, other);
+            });
+        }
+        watch.notices("nothing, which is no crate", |changed| {
+            replace(changed, stack::PAGE, &drawn, "[nothing]");
+        });
+        watch.notices(&format!("no line of {name}"), |changed| {
+            let line = format!("\n    crates/{name} ");
+            replace(changed, stack::PAGE, &line, "\n    crates/nothing ");
+        });
+        watch.notices("newcrate 0 times", |changed| {
+            let line = format!("\n{name}:");
+            replace(changed, "crates.txt", &line, &format!("\nnewcrate:{line}"));
+        });
+    }
+}
+
+#[test]
+fn a_crate_that_does_not_stand_above_what_it_uses_is_noticed() {
+    let repository = Repository::read();
+    let watch = Watch::over(&repository, stack::unlike_the_crates);
+    let uses = stack::uses(&repository);
+    assert!(uses.len() > repository.crates().len());
+    for (name, used) in uses {
+        let about = format!("{name} above {used}");
+        let beside = format!("[{used}]  [{name}]");
+        let below = format!("[{used}]\n    [{name}]");
+        for text in [beside, below] {
+            watch.notices(&about, |changed| redraw(changed, name, used, &text));
+        }
+    }
+    // A use that is new.
+    watch.notices("ground above market", |changed| {
+        replace(changed, "crates.txt", "\nground:", "\nground: market");
+    });
 }
 
 /// README's table and the demands' files, as they are to be.

@@ -13,6 +13,7 @@ mod page;
 mod promises;
 mod rattle;
 mod repository;
+mod stack;
 mod theorems;
 mod word_for_word;
 
@@ -34,8 +35,18 @@ fn contracts_stand_word_for_word_in_promises() {
 }
 
 #[test]
+fn promises_has_a_heading_for_each_crate() {
+    assert_none(&promises::headings_unlike_the_crates(&Repository::read()));
+}
+
+#[test]
 fn every_public_function_is_named_in_promises() {
     assert_none(&promises::functions_unnamed(&Repository::read()));
+}
+
+#[test]
+fn promises_says_which_functions_ask_nothing() {
+    assert_none(&promises::asked_unlike_the_code(&Repository::read()));
 }
 
 #[test]
@@ -75,6 +86,11 @@ fn the_edge_is_the_header_s() {
     assert_none(&edge::unlike_the_header(&Repository::read()));
 }
 
+#[test]
+fn the_picture_is_that_of_the_crates() {
+    assert_none(&stack::unlike_the_crates(&Repository::read()));
+}
+
 /// The proved cases are about the bytes of the book that README's first command reads.
 #[test]
 fn the_proved_book_is_the_worked_book() {
@@ -83,14 +99,19 @@ fn the_proved_book_is_the_worked_book() {
     let (_, rest) = cases
         .split_once("\nworked =\n")
         .expect("the cases have the worked book's bytes");
-    let (list, _) = rest.split_once("\n\n").expect("a line is left free behind them");
+    let (list, _) = rest
+        .split_once("\n\n")
+        .expect("a line is left free behind them");
     let words = list.split(|c: char| !c.is_ascii_digit());
     let numbers = words.filter(|word| !word.is_empty());
     let bytes: Vec<u8> = numbers
         .map(|number| number.parse().expect("each is a byte"))
         .collect();
     let book = concat!(env!("CARGO_MANIFEST_DIR"), "/../books/worked.book");
-    assert_eq!(bytes, std::fs::read(book).expect("the worked book is there"));
+    assert_eq!(
+        bytes,
+        std::fs::read(book).expect("the worked book is there")
+    );
 }
 
 #[test]

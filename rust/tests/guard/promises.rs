@@ -1,12 +1,12 @@
 //! Guards of the public functions' promises: that each has one which says something,
-//! that `docs/PROMISES.md` has it word for word, and that a table there names it.
+//! that `docs/PROMISES.md` has a heading for each crate and the promise under it word for
+//! word, and that an item there names the function.
 
-use crate::page::{code_spans, rows, Row};
+use crate::page::{code_spans, headings, items, Item};
 use crate::rattle::{public_functions, Function};
 use crate::repository::Repository;
-use crate::word_for_word::{self, entry};
-
-pub const PAGE: &str = "docs/PROMISES.md";
+pub use crate::word_for_word::PAGE;
+use crate::word_for_word::{entry, renewed};
 
 /// Public functions without a promise, or with one that says nothing.
 pub fn empty_promises(repository: &Repository) -> Vec<String> {
@@ -127,13 +127,10 @@ fn is_balanced(text: &str) -> bool {
     stays_inside && depth == 0
 }
 
-/// Where the page's last section and the code differ.
+/// Where the page's contracts and the code's differ.
 pub fn differing_contracts(repository: &Repository) -> Vec<String> {
     let page = repository.text(PAGE);
-    let Some(start) = page.find(word_for_word::TITLE) else {
-        return vec![format!("{PAGE} has no section \"Word for word\"")];
-    };
-    let written = entries(&page[start..]);
+    let written = entries(page);
     let functions = public_functions(repository);
     let mut differing = Vec::new();
     for function in &functions {
@@ -154,18 +151,19 @@ pub fn differing_contracts(repository: &Repository) -> Vec<String> {
             ));
         }
     }
-    let section = word_for_word::section(repository);
-    if differing.is_empty() && page[start..].trim_end() != section.trim_end() {
-        differing.push(format!(
-            "the last section of {PAGE} is not as it would be printed"
-        ));
+    let renewed = renewed(repository);
+    if differing.is_empty() && page != renewed {
+        let mut lines = page.lines().zip(renewed.lines());
+        let other = lines.find(|(line, printed)| line != printed);
+        let (line, _) = other.unwrap_or(("its end", ""));
+        differing.push(format!("{PAGE} is not as it would be printed: {line}"));
     }
     differing
 }
 
-/// The entries of the section's blocks: a line, and those further in that follow it.
-fn entries(section: &str) -> Vec<String> {
-    let blocks = section.split("```").skip(1).step_by(2);
+/// The entries of the page's blocks: a line, and those further in that follow it.
+fn entries(page: &str) -> Vec<String> {
+    let blocks = page.split("```").skip(1).step_by(2);
     let mut entries: Vec<String> = Vec::new();
     for line in blocks.flat_map(str::lines).filter(|line| !line.is_empty()) {
         match entries.last_mut() {
@@ -183,16 +181,48 @@ fn path_in(entry: &str) -> &str {
     entry.split('(').next().unwrap_or(entry)
 }
 
-/// The rows of the page that name functions.
-pub fn function_rows(repository: &Repository) -> Vec<Row> {
-    let rows = rows(repository.text(PAGE)).into_iter();
-    rows.filter(|row| row.cell("Function").is_some()).collect()
+/// The page's headings have to be the crates, from the last that `crates.txt` lists to
+/// the first, and a sentence has to stand under each.
+pub fn headings_unlike_the_crates(repository: &Repository) -> Vec<String> {
+    let page = repository.text(PAGE);
+    let crates: Vec<&str> = repository.crates().into_iter().rev().collect();
+    let headings = headings(page);
+    let mut unlike = Vec::new();
+    for name in &crates {
+        match headings.iter().filter(|heading| *heading == name).count() {
+            1 if has_sentence(page, name) => {}
+            1 => unlike.push(format!("{PAGE} does not say what {name} promises")),
+            count => unlike.push(format!("{PAGE} has {count} headings {name}")),
+        }
+    }
+    let others = headings.iter().filter(|heading| !crates.contains(heading));
+    unlike.extend(others.map(|heading| format!("{PAGE}: {heading} is no crate")));
+    let mut pairs = headings.iter().zip(&crates);
+    if let Some((heading, name)) = pairs.find(|(heading, name)| heading != name) {
+        unlike.push(format!("{PAGE} has {heading} where {name} is to stand"));
+    }
+    unlike
 }
 
-/// The functions' names in a row's first cell: `a::b(x)` or `a::b, c`, which is `a::b`
-/// and `a::c`.
-pub fn names_in(row: &Row) -> Vec<String> {
-    let spans = code_spans(row.first()).into_iter();
+/// Whether words stand under the heading, before any list or block.
+fn has_sentence(page: &str, heading: &str) -> bool {
+    let mut lines = page
+        .lines()
+        .skip_while(|line| line.strip_prefix("## ") != Some(heading));
+    let first = lines.by_ref().skip(1).find(|line| !line.is_empty());
+    first.is_some_and(|line| line.starts_with(char::is_alphabetic))
+}
+
+/// The items of the page that name functions.
+pub fn function_items(repository: &Repository) -> Vec<Item<'_>> {
+    let items = items(repository.text(PAGE)).into_iter();
+    items.filter(|item| !names_in(item).is_empty()).collect()
+}
+
+/// The functions' names in an item's front: `a::b(x)` or `a::b, c`, which is `a::b` and
+/// `a::c`.
+pub fn names_in(item: &Item) -> Vec<String> {
+    let spans = code_spans(item.front).into_iter();
     let spans = spans.filter(|span| !span.contains('/'));
     spans.flat_map(names_in_span).collect()
 }
@@ -209,25 +239,42 @@ fn names_in_span(span: &str) -> Vec<String> {
     first.into_iter().chain(others).collect()
 }
 
-/// Public functions that no table names, and names in a table that are not just one
-/// public function's.
+/// Public functions that no item under their crate's heading names, and names of an item
+/// that are not just one public function's of that crate.
 pub fn functions_unnamed(repository: &Repository) -> Vec<String> {
     let functions = public_functions(repository);
-    let rows = function_rows(repository);
-    let named: Vec<String> = rows.iter().flat_map(names_in).collect();
+    let mut is_named = vec![false; functions.len()];
     let mut unnamed = Vec::new();
-    for function in &functions {
-        if !named.iter().any(|name| function.is_named(name)) {
-            unnamed.push(format!("no table of {PAGE} names {}", function.path));
+    for item in function_items(repository) {
+        for name in names_in(&item) {
+            let meant = (0..functions.len()).filter(|&at| functions[at].is_named(&name));
+            match meant.collect::<Vec<_>>()[..] {
+                [] => unnamed.push(format!("{PAGE} names {name}, which is not public")),
+                [at] if functions[at].crate_name() == item.heading => is_named[at] = true,
+                [_] => unnamed.push(format!("{PAGE} names {name} under {}", item.heading)),
+                _ => unnamed.push(format!("{PAGE} names {name}, which is not one function's")),
+            }
         }
     }
-    for name in &named {
-        let count = functions.iter().filter(|function| function.is_named(name));
-        match count.count() {
-            1 => {}
-            0 => unnamed.push(format!("{PAGE} names {name}, which is not public")),
-            _ => unnamed.push(format!("{PAGE} names {name}, which is not one function's")),
-        }
-    }
+    let functions = functions.iter().zip(is_named);
+    let others = functions.filter(|(_, is_named)| !is_named);
+    unnamed.extend(others.map(|(function, _)| format!("{PAGE} does not name {}", function.path)));
     unnamed
+}
+
+/// Items that ask nothing of the caller though one of their functions has a `requires`,
+/// or ask something though none has.
+pub fn asked_unlike_the_code(repository: &Repository) -> Vec<String> {
+    let functions = public_functions(repository);
+    let mut unlike = Vec::new();
+    for item in function_items(repository) {
+        let names = names_in(&item);
+        let is_meant = |function: &&Function| names.iter().any(|name| function.is_named(name));
+        let mut meant = functions.iter().filter(is_meant);
+        let asks = meant.any(|function| function.requires().next().is_some());
+        if (item.note("Asks") == Some("nothing")) == asks {
+            unlike.push(format!("{PAGE} does not say what {} asks", item.front));
+        }
+    }
+    unlike
 }

@@ -47,6 +47,11 @@ impl Function {
         clauses.filter(|clause| clause.starts_with("ensures"))
     }
 
+    pub fn requires(&self) -> impl Iterator<Item = &str> {
+        let clauses = self.clauses.iter().map(String::as_str);
+        clauses.filter(|clause| clause.starts_with("requires"))
+    }
+
     /// Whether the path ends with these names, one or several.
     pub fn is_named(&self, names: &str) -> bool {
         let rest = self.path.strip_suffix(names);

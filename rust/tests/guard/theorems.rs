@@ -21,7 +21,7 @@ pub struct Named {
 pub fn named(repository: &Repository) -> Vec<Named> {
     let mut named = Vec::new();
     for row in rows(repository.text(PAGE)) {
-        let [demand, theorems, file, ..] = &row.cells[..] else {
+        let [demand, theorems, file, ..] = row[..] else {
             continue;
         };
         let files = code_spans(file);

@@ -1,15 +1,10 @@
-//! The section of `docs/PROMISES.md` that has every public function's contract as it
-//! stands.
+//! The blocks of `docs/PROMISES.md` that have every public function's contract as it
+//! stands, each at the end of its crate's section.
 
 use crate::rattle::{public_functions, Function};
 use crate::repository::Repository;
 
-pub const TITLE: &str = "## Word for word";
-
-const ABOUT: &str = "Every public function's contract as it stands in the code. The gate \
-compares the two (`rust/tests/guard`), so that no contract is changed or lost unseen. After \
-a change that is meant, `cd rust && cargo run --release --offline --example promises` prints \
-this section anew, to be put here by hand.";
+pub const PAGE: &str = "docs/PROMISES.md";
 
 /// A function's entry: its name and signature, and each clause on a line.
 pub fn entry(function: &Function) -> String {
@@ -21,19 +16,24 @@ pub fn entry(function: &Function) -> String {
     entry
 }
 
-/// The whole section: a block for each crate that has public functions.
-pub fn section(repository: &Repository) -> String {
+/// The page with the contracts as the code has them: all that stands before a section's
+/// block is kept, and the block made anew.
+pub fn renewed(repository: &Repository) -> String {
     let functions = public_functions(repository);
-    let mut section = format!("{TITLE}\n\n{ABOUT}\n");
-    for name in repository.crates() {
+    let mut sections = repository.text(PAGE).split("\n## ");
+    let mut page = sections.next().unwrap_or("").to_owned();
+    for section in sections {
+        let name = section.lines().next().unwrap_or("");
+        let words = section.split("\n```").next().unwrap_or(section);
+        page.push_str(&format!("\n## {}\n", words.trim_end()));
         let of_crate = functions
             .iter()
             .filter(|function| function.crate_name() == name);
         let entries: Vec<String> = of_crate.map(entry).collect();
         if !entries.is_empty() {
             let entries = entries.join("\n");
-            section.push_str(&format!("\n```\n{entries}\n```\n"));
+            page.push_str(&format!("\n```\n{entries}\n```\n"));
         }
     }
-    section
+    page
 }

@@ -15,8 +15,8 @@ Inv-loop units u last before a p₀ p = Walk (unitAccount (unitRow units)) u a p
 abbrev μ-loop : tie.MeasureT-loop
 μ-loop units u last before a p₀ p = p
 
-mark-requires : tie.Need-mark-requires Inv-loop μ-loop
-mark-requires c κs = search needs
+bucket-requires : tie.Need-bucket-requires Inv-loop μ-loop
+bucket-requires c κs = search needs
 
 mul-p : tie.Need-mul-p Inv-loop μ-loop
 mul-p c = search needs
@@ -25,10 +25,10 @@ element-copy-out-p : tie.Need-element-copy-out-p Inv-loop μ-loop
 element-copy-out-p c = search needs
 
 cast-p : tie.Need-cast-p Inv-loop μ-loop
-cast-p c = omega (arith, c .before .before .before .pre .1 .ends _ (c .before .mark .ensures .1) .within)
+cast-p c = omega (arith, c .before .before .before .pre .1 .ends _ (c .before .bucket .ensures .1) .within)
 
 loop-holds : tie.Need-loop-holds Inv-loop μ-loop
-loop-holds c = walk-start _ _ _ (c .before .before .before .pre .1) (c .before .mark .ensures .0) (c .before .mark .ensures .1) refl
+loop-holds c = walk-start _ _ _ (c .before .before .before .pre .1) (c .before .bucket .ensures .0) (c .before .bucket .ensures .1) refl
 
 sub-unit-account : tie.Need-sub-unit-account Inv-loop μ-loop
 sub-unit-account c = search needs
@@ -69,7 +69,7 @@ in-units-spec =
     (tie.spec
     Inv-loop
     μ-loop
-    mark-requires
+    bucket-requires
     mul-p
     element-copy-out-p
     cast-p
