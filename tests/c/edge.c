@@ -2,7 +2,8 @@
  * Sees the shape of the library's edge from C: the order and the width of every
  * field of every answer and of every parameter, which no contract of the proved
  * code speaks of. The fields of an answer differ from each other, and numbers of
- * 2^32 and above stand wherever the type and the rules have room for them.
+ * 2^32 and above stand wherever the type and the rules have room for them. And
+ * sees that a slice of length 0 may come with any pointer.
  *
  * The one argument is the machine's name (`uname -m`). Lengths of 2^32 and above
  * want a mapping of that size; a machine other than x86_64, where this runs in an
