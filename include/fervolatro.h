@@ -5,12 +5,165 @@
  * A call reads the bytes it is lent and writes at most the buffer it is lent:
  * it keeps nothing from one call to the next, and needs no preparation and no
  * tidying up.
+ *
+ * What a caller must keep to. A slice is lent as a pointer and a length: so
+ * many bytes from there on can be read, and those of a buffer written, for as
+ * long as the call lasts. What they hold may be anything. A slice of length 0
+ * may come with any pointer, NULL too. Two things are forbidden:
+ *
+ *   - a buffer that overlaps a slice which the same call reads;
+ *   - another thread, or a process that shares the memory, that changes lent
+ *     bytes during the call.
+ *
+ * Either can make the call read or write anywhere. All that is proved of the
+ * calls is proved of bytes that stay what they are during the call: a length or
+ * a count that was read once and found good is not asked again.
+ *
+ * Threads. Calls share nothing: any number may run at once, each with a buffer
+ * of its own, also on the same book.
+ *
+ * Stack. No call takes more than 4 KiB; tests/c/stack.c measures it.
  */
 #ifndef FERVOLATRO_H
 #define FERVOLATRO_H
 
 #include <stddef.h>
 #include <stdint.h>
+
+/* The version of the library that this header belongs to. Whole numbers and
+ * their text say the same. */
+#define FERVOLATRO_VERSION_MAJOR 0
+#define FERVOLATRO_VERSION_MINOR 1
+#define FERVOLATRO_VERSION_PATCH 0
+#define FERVOLATRO_VERSION "0.1.0"
+
+/* How many bytes each record of a book has, in the order of the book. */
+#define FERVOLATRO_BOOK_HEADER_SIZE 24
+#define FERVOLATRO_REGION_ENTRY_SIZE 12
+#define FERVOLATRO_CONSTRAINT_SIZE 40
+#define FERVOLATRO_UNIT_ROW_SIZE 20
+#define FERVOLATRO_ENERGY_ROW_SIZE 24
+#define FERVOLATRO_CONTRACT_SIZE 36
+
+/* How many of each a book has at most; it has five region entries, always. */
+#define FERVOLATRO_REGION_ENTRIES 5
+#define FERVOLATRO_MOST_CONSTRAINTS 64
+#define FERVOLATRO_MOST_UNIT_ROWS 600
+#define FERVOLATRO_MOST_ENERGY_ROWS 1024
+#define FERVOLATRO_MOST_CONTRACTS 16
+
+/* The bytes of a statement's header and of each of its lines, and how many
+ * lines it has at most. */
+#define FERVOLATRO_STATEMENT_HEADER_SIZE 24
+#define FERVOLATRO_LINE_SIZE 24
+#define FERVOLATRO_MOST_LINES 2152
+
+/* The bytes of the largest book that is accepted and of the longest statement.
+ * A buffer of the latter length is never refused as too short. */
+#define FERVOLATRO_LARGEST_BOOK 39796
+#define FERVOLATRO_LARGEST_STATEMENT 51672
+
+/* The most that a cost, a payment or a line can be, either way, in ten-
+ * thousandths of a dollar. It needs 64 bits. */
+#define FERVOLATRO_LIMIT 50000000000LL
+
+/* What an answer's field refusal says; the calls below say which of these each
+ * can give, and in which order they are looked for. */
+enum {
+    FERVOLATRO_NOT_REFUSED = 0,
+    /* The book is shorter than header and region entries, 84 bytes. */
+    FERVOLATRO_REFUSED_SHORT = 1,
+    /* The book's mark, version or a reserved byte of its header is wrong. */
+    FERVOLATRO_REFUSED_MARK = 2,
+    /* Interval, date, run or a count of the header is out of its range. */
+    FERVOLATRO_REFUSED_RANGE = 3,
+    /* The book's length differs from what its counts give. */
+    FERVOLATRO_REFUSED_LENGTH = 4,
+    /* A field of a record is outside its rules. */
+    FERVOLATRO_REFUSED_FIELD = 5,
+    /* Records do not rise strictly by their ids or pairs of ids. */
+    FERVOLATRO_REFUSED_ORDER = 6,
+    /* A unit row names no constraint of the book, or one of mode 0. */
+    FERVOLATRO_REFUSED_NO_CONSTRAINT = 7,
+    /* The factors of a constraint do not add up. */
+    FERVOLATRO_REFUSED_FACTORS = 8,
+    /* A region entry differs from the sums of its energy rows. */
+    FERVOLATRO_REFUSED_REGION_ENTRY = 9,
+    /* A total that a share would be divided by is zero. */
+    FERVOLATRO_REFUSED_ZERO_TOTAL = 10,
+    /* No unit row and no energy row names the account. */
+    FERVOLATRO_REFUSED_NO_ACCOUNT = 11,
+    /* A line would pass FERVOLATRO_LIMIT either way. */
+    FERVOLATRO_REFUSED_LIMIT = 12,
+    /* The lent buffer is shorter than the statement. */
+    FERVOLATRO_REFUSED_BUFFER = 13,
+    /* The bytes are not a statement. */
+    FERVOLATRO_REFUSED_NO_STATEMENT = 14,
+    /* The number of a pool or of a line is past the end. */
+    FERVOLATRO_REFUSED_PAST_END = 15
+};
+
+/* What a line of a statement is for. ACE is the energy consumed, ASOE the
+ * energy sent out. */
+enum {
+    FERVOLATRO_PART_CONTINGENCY_ACE = 1,
+    FERVOLATRO_PART_CONTINGENCY_ASOE = 2,
+    FERVOLATRO_PART_UNIT_FPP = 3,
+    FERVOLATRO_PART_UNIT_USED = 4,
+    FERVOLATRO_PART_UNIT_UNUSED = 5,
+    FERVOLATRO_PART_RESIDUAL_FPP = 6,
+    FERVOLATRO_PART_RESIDUAL_USED = 7,
+    FERVOLATRO_PART_RESIDUAL_UNUSED = 8,
+    FERVOLATRO_PART_CONTRACT_ACE = 9,
+    FERVOLATRO_PART_CONTRACT_ASOE = 10
+};
+
+/* The service of a constraint. */
+enum {
+    FERVOLATRO_SERVICE_VERY_FAST_RAISE = 1,
+    FERVOLATRO_SERVICE_VERY_FAST_LOWER = 2,
+    FERVOLATRO_SERVICE_FAST_RAISE = 3,
+    FERVOLATRO_SERVICE_FAST_LOWER = 4,
+    FERVOLATRO_SERVICE_SLOW_RAISE = 5,
+    FERVOLATRO_SERVICE_SLOW_LOWER = 6,
+    FERVOLATRO_SERVICE_DELAYED_RAISE = 7,
+    FERVOLATRO_SERVICE_DELAYED_LOWER = 8,
+    FERVOLATRO_SERVICE_REGULATION_RAISE = 9,
+    FERVOLATRO_SERVICE_REGULATION_LOWER = 10
+};
+
+/* The region of an energy row, and the place of a region's entry and of its
+ * benefit factor. */
+enum {
+    FERVOLATRO_REGION_NSW1 = 0,
+    FERVOLATRO_REGION_QLD1 = 1,
+    FERVOLATRO_REGION_SA1 = 2,
+    FERVOLATRO_REGION_TAS1 = 3,
+    FERVOLATRO_REGION_VIC1 = 4
+};
+
+/* The regions of a constraint or of a line: one bit each. */
+enum {
+    FERVOLATRO_REGION_BIT_NSW1 = 1,
+    FERVOLATRO_REGION_BIT_QLD1 = 2,
+    FERVOLATRO_REGION_BIT_SA1 = 4,
+    FERVOLATRO_REGION_BIT_TAS1 = 8,
+    FERVOLATRO_REGION_BIT_VIC1 = 16
+};
+
+/* The mode of a constraint: contingency goes with services 1 to 8, factored and
+ * default (no factors were received) with 9 and 10. */
+enum {
+    FERVOLATRO_MODE_CONTINGENCY = 0,
+    FERVOLATRO_MODE_FACTORED = 1,
+    FERVOLATRO_MODE_DEFAULT = 2
+};
+
+/* The kind of a restart contract. */
+enum {
+    FERVOLATRO_CONTRACT_ORDINARY = 1,
+    FERVOLATRO_CONTRACT_TEST = 2
+};
 
 #ifdef __cplusplus
 extern "C" {
@@ -52,8 +205,7 @@ typedef struct {
  * The lowest number that applies is given. Each check runs over the whole
  * book before the next number; within it the lowest offset is reported.
  *
- * book      the first of book_len readable bytes. NULL is not allowed, even
- *           where book_len is 0: pass any valid pointer then.
+ * book      the first of book_len readable bytes.
  * book_len  how many bytes are lent.
  */
 fervolatro_verdict fervolatro_check(const uint8_t *book, size_t book_len);
@@ -92,12 +244,11 @@ typedef struct {
  * statement and every later byte is what it was. A refusal leaves every byte
  * of the buffer what it was.
  *
- * book        the first of book_len readable bytes. NULL is not allowed, even
- *             where book_len is 0: pass any valid pointer then.
+ * book        the first of book_len readable bytes.
  * book_len    how many bytes are lent to be read.
  * account     any number; 0 is no account, and refused by 11.
- * buffer      the first of buffer_len bytes to write to, none of them in the
- *             book. NULL is not allowed, as above.
+ * buffer      the first of buffer_len writable bytes, none of them in the
+ *             book.
  * buffer_len  how many bytes are lent to be written.
  */
 fervolatro_written fervolatro_statement(const uint8_t *book, size_t book_len,
@@ -143,8 +294,7 @@ typedef struct {
  * contract. The accounts are those that a unit row or an energy row of the book
  * names, each once.
  *
- * book      the first of book_len readable bytes. NULL is not allowed, as
- *           above.
+ * book      the first of book_len readable bytes.
  * book_len  how many bytes are lent.
  * pool      any number.
  */
@@ -194,9 +344,7 @@ typedef struct {
  *
  * The order of the lines is not judged.
  *
- * statement      the first of statement_len readable bytes. NULL is not
- *                allowed, even where statement_len is 0: pass any valid
- *                pointer then.
+ * statement      the first of statement_len readable bytes.
  * statement_len  how many bytes are lent.
  */
 fervolatro_heading fervolatro_header(const uint8_t *statement,
@@ -235,8 +383,7 @@ typedef struct {
  *
  * The lowest number that applies is given.
  *
- * statement      the first of statement_len readable bytes. NULL is not
- *                allowed, as above.
+ * statement      the first of statement_len readable bytes.
  * statement_len  how many bytes are lent.
  * index          the number of the line, from 0.
  */
@@ -259,11 +406,10 @@ fervolatro_entry fervolatro_line(const uint8_t *statement,
  * statement and every later byte is what it was. A refusal leaves every byte
  * of the buffer what it was.
  *
- * statement      the first of statement_len readable bytes. NULL is not
- *                allowed, as above.
+ * statement      the first of statement_len readable bytes.
  * statement_len  how many bytes are lent to be read.
- * buffer         the first of buffer_len bytes to write to, none of them in
- *                the statement. NULL is not allowed, as above.
+ * buffer         the first of buffer_len writable bytes, none of them in the
+ *                statement.
  * buffer_len     how many bytes are lent to be written.
  */
 fervolatro_written fervolatro_rewrite(const uint8_t *statement,

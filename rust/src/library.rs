@@ -84,8 +84,8 @@ mod linked {
     }
 
     pub(crate) fn check(book: &[u8]) -> Verdict {
-        // SAFETY: pointer and length are those of one slice, lent for the call; a
-        // slice's pointer is never null; the library reads only and keeps nothing.
+        // SAFETY: pointer and length are those of one slice, which nothing changes
+        // while it is lent; the library reads only and keeps nothing.
         unsafe { fervolatro_check(book.as_ptr(), book.len()) }
     }
 

@@ -2,7 +2,8 @@
  * Sees the shape of the library's edge from C: the order and the width of every
  * field of every answer and of every parameter, which no contract of the proved
  * code speaks of. The fields of an answer differ from each other, and numbers of
- * 2^32 and above stand wherever the type and the rules have room for them.
+ * 2^32 and above stand wherever the type and the rules have room for them. And
+ * sees that a slice of length 0 may come with any pointer.
  *
  * The one argument is the machine's name (`uname -m`). Lengths of 2^32 and above
  * want a mapping of that size; a machine other than x86_64, where this runs in an
@@ -627,6 +628,103 @@ static void lengths(const char *machine, const uint8_t *book,
     munmap(mapped, MAPPED);
 }
 
+/* ---- Slices of length 0, which may come with any pointer. */
+
+/* None of these is followed: NULL, two where nothing is mapped, and the end of an
+ * array. They have the answer that a pointer to readable bytes has. */
+enum { POINTERS = 4 };
+
+static void nowhere(uint8_t *pointers[POINTERS])
+{
+    static uint8_t array[1];
+
+    pointers[0] = NULL;
+    pointers[1] = (uint8_t *)1;
+    pointers[2] = (uint8_t *)UINTPTR_MAX;
+    pointers[3] = array + sizeof array;
+}
+
+/* No book: 1, whatever else is lent. */
+static void no_book_at(const uint8_t *pointer)
+{
+    static const fervolatro_written refused = {.refusal = 1};
+    uint8_t buffer[ROOM];
+
+    expect_verdict("check of nothing", fervolatro_check(pointer, 0),
+                   (fervolatro_verdict){.refusal = 1});
+    expect_pool("balance of nothing", fervolatro_balance(pointer, 0, 0),
+                (fervolatro_pool){.refusal = 1});
+    memset(buffer, UNTOUCHED, ROOM);
+    expect_written("statement of nothing",
+                   fervolatro_statement(pointer, 0, ACCOUNT, buffer, ROOM),
+                   refused);
+    expect_left("statement of nothing", buffer, ROOM, buffer, 0);
+}
+
+/* No statement: 14, whatever else is lent. */
+static void no_statement_at(const uint8_t *pointer)
+{
+    static const fervolatro_written refused = {.refusal = 14};
+    uint8_t buffer[ROOM];
+
+    expect_heading("header of nothing", fervolatro_header(pointer, 0),
+                   (fervolatro_heading){.refusal = 14});
+    expect_entry("line of nothing", fervolatro_line(pointer, 0, 0),
+                 (fervolatro_entry){.refusal = 14});
+    memset(buffer, UNTOUCHED, ROOM);
+    expect_written("rewrite of nothing",
+                   fervolatro_rewrite(pointer, 0, buffer, ROOM), refused);
+    expect_left("rewrite of nothing", buffer, ROOM, buffer, 0);
+}
+
+/* No buffer: 13, where nothing else is wrong. */
+static void no_buffer_at(uint8_t *pointer, const uint8_t *book,
+                         const uint8_t *statement)
+{
+    static const fervolatro_written no_room = {.refusal = 13};
+
+    expect_written("statement into nothing",
+                   fervolatro_statement(book, BOOK_LEN, ACCOUNT, pointer, 0),
+                   no_room);
+    expect_written("statement of no account into nothing",
+                   fervolatro_statement(book, BOOK_LEN, 0, pointer, 0),
+                   (fervolatro_written){.refusal = 11});
+    expect_written("rewrite into nothing",
+                   fervolatro_rewrite(statement, STATEMENT_LEN, pointer, 0),
+                   no_room);
+}
+
+/* Neither slice has a byte. */
+static void nothing_into_nothing(const uint8_t *from, uint8_t *into)
+{
+    expect_written("statement of nothing into nothing",
+                   fervolatro_statement(from, 0, ACCOUNT, into, 0),
+                   (fervolatro_written){.refusal = 1});
+    expect_written("rewrite of nothing into nothing",
+                   fervolatro_rewrite(from, 0, into, 0),
+                   (fervolatro_written){.refusal = 14});
+}
+
+static void slices_of_no_bytes(uint8_t *book, uint8_t *statement)
+{
+    uint8_t *pointers[POINTERS];
+    size_t i, other;
+
+    no_book_at(book);
+    no_statement_at(statement);
+    no_buffer_at((uint8_t[1]){0}, book, statement);
+    nothing_into_nothing(book, statement);
+    nowhere(pointers);
+    for (i = 0; i < POINTERS; i++) {
+        no_book_at(pointers[i]);
+        no_statement_at(pointers[i]);
+        no_buffer_at(pointers[i], book, statement);
+        for (other = 0; other < POINTERS; other++) {
+            nothing_into_nothing(pointers[i], pointers[other]);
+        }
+    }
+}
+
 /* ---- What a caller's compiler leaves open. */
 
 /*
@@ -750,6 +848,7 @@ int main(int argc, char **argv)
     painted_answers_on_a_statement(statement);
     account_in_a_wide_register(book);
     lengths(argv[1], book, statement);
+    slices_of_no_bytes(book, statement);
 
     return failures == 0 ? EXIT_SUCCESS : EXIT_FAILURE;
 }

@@ -1,8 +1,9 @@
 /*
  * Sees how much stack the library's calls use: each is made on a stack of its
  * own, painted before. A book and an account are the arguments. Prints the bytes
- * that a check, the statement of the account and the balances, the most over all
- * pools, paint over. Exits non-zero if one of them passes 4 KiB.
+ * that each call paints over: a check, the statement of the account, the balances
+ * (the most over all pools), and the statement's header, its first line and the
+ * statement written again. Exits non-zero if one of them passes 4 KiB.
  */
 #define _XOPEN_SOURCE 700
 
@@ -17,14 +18,14 @@
 enum {
     LIMIT = 4096,
     ROOM = 1 << 20,
-    PAINT = 0xA5,
-    /* Of a book, and one byte more, to see that it ends there. */
-    LONGEST_BOOK = 39796 + 1,
-    LONGEST_STATEMENT = 51672
+    PAINT = 0xA5
 };
 
-static uint8_t book[LONGEST_BOOK], buffer[LONGEST_STATEMENT];
-static size_t book_len;
+/* A byte more than any book has: a longer file is then refused. */
+static uint8_t book[FERVOLATRO_LARGEST_BOOK + 1];
+static uint8_t statement[FERVOLATRO_LARGEST_STATEMENT];
+static uint8_t buffer[FERVOLATRO_LARGEST_STATEMENT];
+static size_t book_len, statement_len;
 static uint32_t account;
 static uint64_t pool, refusal;
 
@@ -40,14 +41,33 @@ static void check(void)
 
 static void write_statement(void)
 {
-    refusal = fervolatro_statement(book, book_len, account, buffer,
-                                   sizeof buffer)
-                  .refusal;
+    fervolatro_written written = fervolatro_statement(
+        book, book_len, account, statement, sizeof statement);
+
+    refusal = written.refusal;
+    statement_len = (size_t)written.length;
 }
 
 static void balance(void)
 {
     refusal = fervolatro_balance(book, book_len, pool).refusal;
+}
+
+static void read_header(void)
+{
+    refusal = fervolatro_header(statement, statement_len).refusal;
+}
+
+static void read_line(void)
+{
+    refusal = fervolatro_line(statement, statement_len, 0).refusal;
+}
+
+static void rewrite(void)
+{
+    refusal = fervolatro_rewrite(statement, statement_len, buffer,
+                                 sizeof buffer)
+                  .refusal;
 }
 
 /* How many bytes are painted over, down from the top, after the call. */
@@ -111,18 +131,30 @@ static void read_book(const char *path)
     fclose(file);
 }
 
-/* A refused call may end early, and say little. */
-static void expect_accepted(const char *call)
+/* Prints what a call uses, and says whether that keeps within the limit. */
+static int shown(const char *name, size_t used)
 {
+    static const char *between = "";
+
+    printf("%s%s %zu", between, name, used);
+    between = ", ";
+    return used <= LIMIT;
+}
+
+/* A refused call may end early, and say little. */
+static int accepted_and_shown(const char *name, void (*call)(void))
+{
+    call();
     if (refusal != 0) {
-        fprintf(stderr, "%s: refused %" PRIu64 "\n", call, refusal);
+        fprintf(stderr, "%s: refused %" PRIu64 "\n", name, refusal);
         exit(2);
     }
+    return shown(name, used_by(call));
 }
 
 int main(int argc, char **argv)
 {
-    size_t checking, writing, balancing;
+    int kept;
 
     if (argc != 3) {
         fprintf(stderr, "usage: %s BOOK ACCOUNT\n", argv[0]);
@@ -131,17 +163,12 @@ int main(int argc, char **argv)
     read_book(argv[1]);
     account = (uint32_t)strtoul(argv[2], NULL, 10);
 
-    check();
-    expect_accepted("check");
-    checking = used_by(check);
-    write_statement();
-    expect_accepted("statement");
-    writing = used_by(write_statement);
-    balancing = used_by_balances();
-
-    printf("check %zu, statement %zu, balance %zu\n", checking, writing,
-           balancing);
-    return checking <= LIMIT && writing <= LIMIT && balancing <= LIMIT
-               ? EXIT_SUCCESS
-               : EXIT_FAILURE;
+    kept = accepted_and_shown("check", check);
+    kept &= accepted_and_shown("statement", write_statement);
+    kept &= shown("balance", used_by_balances());
+    kept &= accepted_and_shown("header", read_header);
+    kept &= accepted_and_shown("line", read_line);
+    kept &= accepted_and_shown("rewrite", rewrite);
+    printf("\n");
+    return kept ? EXIT_SUCCESS : EXIT_FAILURE;
 }

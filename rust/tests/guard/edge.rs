@@ -6,7 +6,7 @@
 use crate::rattle::{all_functions, Function};
 use crate::repository::Repository;
 
-const HEADER: &str = "include/fervolatro.h";
+pub const HEADER: &str = "include/fervolatro.h";
 pub const CODE: &str = "crates/fervolatro/src/lib.rt";
 
 /// Calls and answers that the header has otherwise than the code.
@@ -30,6 +30,29 @@ pub fn unlike_the_header(repository: &Repository) -> Vec<String> {
         if !prototypes.iter().any(|one| one.name == call.name()) {
             complaints.push(format!("{HEADER} has no call {}", call.name()));
         }
+    }
+    complaints
+}
+
+/// The C tests that make every call, and how each of them names one.
+const TRIED_IN: [(&str, &str); 3] = [
+    ("tests/c/edge.c", "fervolatro_"),
+    ("tests/c/stack.c", "fervolatro_"),
+    ("tests/c/load.c", "FIND(loaded, "),
+];
+
+/// Calls of the header that a C test, which is to make every one, leaves out.
+pub fn untried(repository: &Repository) -> Vec<String> {
+    let header = without_comments(repository.text(HEADER));
+    let mut complaints = Vec::new();
+    for Prototype { name, .. } in prototypes(&header) {
+        let call = name.trim_start_matches("fervolatro_");
+        let files = TRIED_IN.iter().filter(|(file, front)| {
+            let text = repository.text(file);
+            let is_made = |end| text.contains(&format!("{front}{call}{end}"));
+            !is_made('(') && !is_made(')')
+        });
+        complaints.extend(files.map(|(file, _)| format!("{file} does not call {name}")));
     }
     complaints
 }
@@ -62,10 +85,16 @@ fn why_unlike(header: &str, of: &Prototype, code: &str, call: &Function) -> Opti
 
 /// The header without its comments, white space made single.
 fn without_comments(header: &str) -> String {
+    let code = comments_removed(header);
+    let words: Vec<&str> = code.split_whitespace().collect();
+    words.join(" ")
+}
+
+/// The header without its comments.
+pub fn comments_removed(header: &str) -> String {
     let parts = header.split("/*");
     let code = parts.map(|part| part.split_once("*/").map_or(part, |(_, code)| code));
-    let code: Vec<&str> = code.flat_map(str::split_whitespace).collect();
-    code.join(" ")
+    code.collect()
 }
 
 fn prototypes(header: &str) -> Vec<Prototype<'_>> {

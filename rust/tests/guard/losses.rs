@@ -3,6 +3,7 @@
 
 use std::rc::Rc;
 
+use crate::constants;
 use crate::edge;
 use crate::edits;
 use crate::promises;
@@ -661,6 +662,56 @@ fn an_edge_of_another_shape_is_noticed() {
     for (old, new, about) in changes {
         watch.notices(about, |changed| replace(changed, edge::CODE, old, new));
     }
+}
+
+#[test]
+fn a_call_that_a_c_test_leaves_out_is_noticed() {
+    let repository = Repository::read();
+    let watch = Watch::over(&repository, edge::untried);
+    for file in ["tests/c/edge.c", "tests/c/stack.c", "tests/c/load.c"] {
+        watch.notices(
+            &format!("{file} does not call fervolatro_rewrite"),
+            |changed| {
+                rewrite(changed, file, |text| text.replace("rewrite", "reread"));
+            },
+        );
+    }
+}
+
+#[test]
+fn a_constant_of_another_number_is_noticed() {
+    let repository = Repository::read();
+    let watch = Watch::over(&repository, constants::unlike_the_rules);
+    let constants = constants::constants(&repository);
+    assert!(constants.len() >= 70, "the header has {}", constants.len());
+    for constant in constants {
+        let name = format!("FERVOLATRO_{}", constant.name);
+        let mut forms = ["", "= "].into_iter();
+        let stands = |form: &&str| {
+            let text = format!("{name} {form}{}", constant.value);
+            repository.text(edge::HEADER).contains(&text)
+        };
+        let form = forms.find(stands).expect("it stands in the header");
+        watch.notices(&name, |changed| {
+            let [old, new] = [&constant.value, "77"].map(|value| format!("{name} {form}{value}"));
+            replace(changed, edge::HEADER, &old, &new);
+        });
+    }
+}
+
+#[test]
+fn a_constant_that_is_gone_or_new_is_noticed() {
+    let repository = Repository::read();
+    let watch = Watch::over(&repository, constants::unlike_the_rules);
+    for constant in constants::constants(&repository) {
+        let name = format!("FERVOLATRO_{}", constant.name);
+        watch.notices("FERVOLATRO_", |changed| {
+            rewrite(changed, edge::HEADER, |text| text.replace(&name, "OTHER"));
+        });
+    }
+    watch.notices("FERVOLATRO_MOST_POOLS", |changed| {
+        append(changed, edge::HEADER, "#define FERVOLATRO_MOST_POOLS 208\n");
+    });
 }
 
 #[test]

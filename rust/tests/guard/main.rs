@@ -6,6 +6,7 @@
 //! complaints. The tests of `losses` take something away first, and ask for a complaint
 //! about it.
 
+mod constants;
 mod edge;
 mod edits;
 mod losses;
@@ -89,6 +90,16 @@ fn the_edge_is_the_header_s() {
 #[test]
 fn the_picture_is_that_of_the_crates() {
     assert_none(&stack::unlike_the_crates(&Repository::read()));
+}
+
+#[test]
+fn every_call_is_made_from_c() {
+    assert_none(&edge::untried(&Repository::read()));
+}
+
+#[test]
+fn the_header_s_constants_are_the_rules() {
+    assert_none(&constants::unlike_the_rules(&Repository::read()));
 }
 
 /// The proved cases are about the bytes of the book that README's first command reads.

@@ -1,0 +1,384 @@
+/*
+ * Sees that the header's constants are what the library answers and reads: each
+ * refusal by its name, the sizes by the records, and of each group exactly the
+ * numbers that the library takes. The path of the worked book is the one argument.
+ *
+ * Exits non-zero with a message if an answer is not the expected one. That the
+ * constants are also the numbers of the rules, a guard sees
+ * (rust/tests/guard/constants.rs).
+ */
+#include <inttypes.h>
+#include <stdio.h>
+#include <stdlib.h>
+#include <string.h>
+
+#include "fervolatro.h"
+
+_Static_assert(FERVOLATRO_BOOK_HEADER_SIZE
+                       + FERVOLATRO_REGION_ENTRIES * FERVOLATRO_REGION_ENTRY_SIZE
+                       + FERVOLATRO_MOST_CONSTRAINTS * FERVOLATRO_CONSTRAINT_SIZE
+                       + FERVOLATRO_MOST_UNIT_ROWS * FERVOLATRO_UNIT_ROW_SIZE
+                       + FERVOLATRO_MOST_ENERGY_ROWS * FERVOLATRO_ENERGY_ROW_SIZE
+                       + FERVOLATRO_MOST_CONTRACTS * FERVOLATRO_CONTRACT_SIZE
+                   == FERVOLATRO_LARGEST_BOOK,
+               "the largest book has the most of every record");
+_Static_assert(FERVOLATRO_STATEMENT_HEADER_SIZE
+                       + FERVOLATRO_MOST_LINES * FERVOLATRO_LINE_SIZE
+                   == FERVOLATRO_LARGEST_STATEMENT,
+               "the longest statement has the most lines");
+_Static_assert(FERVOLATRO_LARGEST_BOOK == 39796, "24 + 60 + 2,560 + 12,000 + "
+                                                 "24,576 + 576");
+_Static_assert(FERVOLATRO_LARGEST_STATEMENT == 51672, "24 + 51,648");
+_Static_assert(FERVOLATRO_LIMIT / 1000000 == 50000 && sizeof FERVOLATRO_LIMIT == 8,
+               "the limit is not cut off");
+
+/* ---- The groups. A compiler takes no two equal numbers in one switch. */
+
+static int is_part(unsigned number)
+{
+    switch (number) {
+    case FERVOLATRO_PART_CONTINGENCY_ACE:
+    case FERVOLATRO_PART_CONTINGENCY_ASOE:
+    case FERVOLATRO_PART_UNIT_FPP:
+    case FERVOLATRO_PART_UNIT_USED:
+    case FERVOLATRO_PART_UNIT_UNUSED:
+    case FERVOLATRO_PART_RESIDUAL_FPP:
+    case FERVOLATRO_PART_RESIDUAL_USED:
+    case FERVOLATRO_PART_RESIDUAL_UNUSED:
+    case FERVOLATRO_PART_CONTRACT_ACE:
+    case FERVOLATRO_PART_CONTRACT_ASOE:
+        return 1;
+    default:
+        return 0;
+    }
+}
+
+static int is_service(unsigned number)
+{
+    switch (number) {
+    case FERVOLATRO_SERVICE_VERY_FAST_RAISE:
+    case FERVOLATRO_SERVICE_VERY_FAST_LOWER:
+    case FERVOLATRO_SERVICE_FAST_RAISE:
+    case FERVOLATRO_SERVICE_FAST_LOWER:
+    case FERVOLATRO_SERVICE_SLOW_RAISE:
+    case FERVOLATRO_SERVICE_SLOW_LOWER:
+    case FERVOLATRO_SERVICE_DELAYED_RAISE:
+    case FERVOLATRO_SERVICE_DELAYED_LOWER:
+    case FERVOLATRO_SERVICE_REGULATION_RAISE:
+    case FERVOLATRO_SERVICE_REGULATION_LOWER:
+        return 1;
+    default:
+        return 0;
+    }
+}
+
+static int is_region(unsigned number)
+{
+    switch (number) {
+    case FERVOLATRO_REGION_NSW1:
+    case FERVOLATRO_REGION_QLD1:
+    case FERVOLATRO_REGION_SA1:
+    case FERVOLATRO_REGION_TAS1:
+    case FERVOLATRO_REGION_VIC1:
+        return 1;
+    default:
+        return 0;
+    }
+}
+
+static int is_region_bit(unsigned number)
+{
+    switch (number) {
+    case FERVOLATRO_REGION_BIT_NSW1:
+    case FERVOLATRO_REGION_BIT_QLD1:
+    case FERVOLATRO_REGION_BIT_SA1:
+    case FERVOLATRO_REGION_BIT_TAS1:
+    case FERVOLATRO_REGION_BIT_VIC1:
+        return 1;
+    default:
+        return 0;
+    }
+}
+
+static int is_contract_kind(unsigned number)
+{
+    switch (number) {
+    case FERVOLATRO_CONTRACT_ORDINARY:
+    case FERVOLATRO_CONTRACT_TEST:
+        return 1;
+    default:
+        return 0;
+    }
+}
+
+/* The modes that go with a service: contingency with 1 to 8, the others with
+ * regulation. */
+static int is_mode_of(unsigned service, unsigned number)
+{
+    int regulates = service == FERVOLATRO_SERVICE_REGULATION_RAISE
+                    || service == FERVOLATRO_SERVICE_REGULATION_LOWER;
+
+    switch (number) {
+    case FERVOLATRO_MODE_CONTINGENCY:
+        return !regulates;
+    case FERVOLATRO_MODE_FACTORED:
+    case FERVOLATRO_MODE_DEFAULT:
+        return regulates;
+    default:
+        return 0;
+    }
+}
+
+static const char *name_of(uint64_t refusal)
+{
+    switch (refusal) {
+    case FERVOLATRO_NOT_REFUSED: return "not refused";
+    case FERVOLATRO_REFUSED_SHORT: return "short";
+    case FERVOLATRO_REFUSED_MARK: return "mark";
+    case FERVOLATRO_REFUSED_RANGE: return "range";
+    case FERVOLATRO_REFUSED_LENGTH: return "length";
+    case FERVOLATRO_REFUSED_FIELD: return "field";
+    case FERVOLATRO_REFUSED_ORDER: return "order";
+    case FERVOLATRO_REFUSED_NO_CONSTRAINT: return "no constraint";
+    case FERVOLATRO_REFUSED_FACTORS: return "factors";
+    case FERVOLATRO_REFUSED_REGION_ENTRY: return "region entry";
+    case FERVOLATRO_REFUSED_ZERO_TOTAL: return "zero total";
+    case FERVOLATRO_REFUSED_NO_ACCOUNT: return "no account";
+    case FERVOLATRO_REFUSED_LIMIT: return "limit";
+    case FERVOLATRO_REFUSED_BUFFER: return "buffer";
+    case FERVOLATRO_REFUSED_NO_STATEMENT: return "no statement";
+    case FERVOLATRO_REFUSED_PAST_END: return "past the end";
+    default: return "a number without a name";
+    }
+}
+
+static int failures = 0;
+
+static void expect(const char *what, uint64_t got, uint64_t expected)
+{
+    if (got != expected) {
+        fprintf(stderr, "%s: expected %s, got %s (%" PRIu64 ")\n", what,
+                name_of(expected), name_of(got), got);
+        failures++;
+    }
+}
+
+/* ---- The worked book, by the sizes of the header. */
+
+enum {
+    UNITS = 5,
+    ENTRY_AT = FERVOLATRO_BOOK_HEADER_SIZE,
+    CONSTRAINT_AT =
+        ENTRY_AT + FERVOLATRO_REGION_ENTRIES * FERVOLATRO_REGION_ENTRY_SIZE,
+    UNITS_AT = CONSTRAINT_AT + FERVOLATRO_CONSTRAINT_SIZE,
+    ENERGIES_AT = UNITS_AT + UNITS * FERVOLATRO_UNIT_ROW_SIZE,
+    BOOK_LEN = ENERGIES_AT + 2 * FERVOLATRO_ENERGY_ROW_SIZE,
+    LINES = 12,
+    LINE_AT = FERVOLATRO_STATEMENT_HEADER_SIZE,
+    STATEMENT_LEN = LINE_AT + LINES * FERVOLATRO_LINE_SIZE
+};
+
+static uint8_t book[BOOK_LEN + 1], statement[STATEMENT_LEN];
+
+static void read_book(const char *path)
+{
+    FILE *file = fopen(path, "rb");
+    size_t len;
+
+    if (file == NULL) {
+        perror(path);
+        exit(2);
+    }
+    len = fread(book, 1, BOOK_LEN + 1, file);
+    fclose(file);
+    if (len != BOOK_LEN) {
+        fprintf(stderr, "%s: expected %d bytes\n", path, BOOK_LEN);
+        exit(2);
+    }
+}
+
+/* The answer to the book with one byte of it changed. */
+static uint64_t check_with(size_t at, uint8_t byte)
+{
+    uint8_t before = book[at];
+    uint64_t refusal;
+
+    book[at] = byte;
+    refusal = fervolatro_check(book, BOOK_LEN).refusal;
+    book[at] = before;
+    return refusal;
+}
+
+/* ---- Each refusal by its name. 12 no accepted book reaches. */
+
+/* One byte each, of the record and the field that are named. */
+static void refusals_of_records(void)
+{
+    /* Usage has 400,000; 2^24 is past its range. */
+    expect("the constraint's usage", check_with(CONSTRAINT_AT + 27, 1),
+           FERVOLATRO_REFUSED_FIELD);
+    expect("unit 2 as 1 again",
+           check_with(UNITS_AT + FERVOLATRO_UNIT_ROW_SIZE + 4, 1),
+           FERVOLATRO_REFUSED_ORDER);
+    /* 500 is 0x01F4. */
+    expect("the last unit row of constraint 501",
+           check_with(ENERGIES_AT - FERVOLATRO_UNIT_ROW_SIZE, 0xF5),
+           FERVOLATRO_REFUSED_NO_CONSTRAINT);
+    expect("the first unit's CF", check_with(UNITS_AT + 12, 0),
+           FERVOLATRO_REFUSED_FACTORS);
+    expect("the first region's residual total", check_with(ENTRY_AT + 8, 1),
+           FERVOLATRO_REFUSED_REGION_ENTRY);
+    expect("a constraint where no energy is",
+           check_with(CONSTRAINT_AT + 5, FERVOLATRO_REGION_BIT_QLD1),
+           FERVOLATRO_REFUSED_ZERO_TOTAL);
+}
+
+static void refusals_of_a_book(void)
+{
+    expect("the worked book", fervolatro_check(book, BOOK_LEN).refusal,
+           FERVOLATRO_NOT_REFUSED);
+    expect("a byte less than the region entries",
+           fervolatro_check(book, CONSTRAINT_AT - 1).refusal,
+           FERVOLATRO_REFUSED_SHORT);
+    expect("another mark", check_with(0, 0), FERVOLATRO_REFUSED_MARK);
+    expect("interval 0", check_with(6, 0), FERVOLATRO_REFUSED_RANGE);
+    expect("a byte less", fervolatro_check(book, BOOK_LEN - 1).refusal,
+           FERVOLATRO_REFUSED_LENGTH);
+    refusals_of_records();
+    expect("pool 3", fervolatro_balance(book, BOOK_LEN, 3).refusal,
+           FERVOLATRO_REFUSED_PAST_END);
+}
+
+static void refusals_of_a_statement(void)
+{
+    expect("account 7",
+           fervolatro_statement(book, BOOK_LEN, 7, statement, STATEMENT_LEN)
+               .refusal,
+           FERVOLATRO_NOT_REFUSED);
+    expect("account 8",
+           fervolatro_statement(book, BOOK_LEN, 8, statement, STATEMENT_LEN)
+               .refusal,
+           FERVOLATRO_REFUSED_NO_ACCOUNT);
+    expect("room one short",
+           fervolatro_statement(book, BOOK_LEN, 7, statement, STATEMENT_LEN - 1)
+               .refusal,
+           FERVOLATRO_REFUSED_BUFFER);
+    expect("a byte less of the statement",
+           fervolatro_header(statement, STATEMENT_LEN - 1).refusal,
+           FERVOLATRO_REFUSED_NO_STATEMENT);
+    expect("line 12", fervolatro_line(statement, STATEMENT_LEN, LINES).refusal,
+           FERVOLATRO_REFUSED_PAST_END);
+}
+
+/* ---- Exactly the numbers of a group are taken. Another is refused as a field
+ * outside its rules, or as no statement. One that is taken may still make another
+ * check fail, which comes after. */
+
+static void expect_taken(const char *what, unsigned number, uint64_t refusal,
+                         int is_known)
+{
+    int is_taken = refusal != FERVOLATRO_REFUSED_FIELD
+                   && refusal != FERVOLATRO_REFUSED_NO_STATEMENT;
+
+    if (is_taken != is_known) {
+        fprintf(stderr, "%s %u: %s, though the header %s it\n", what, number,
+                name_of(refusal), is_known ? "has" : "lacks");
+        failures++;
+    }
+}
+
+/* Price, RCR, usage, RCF and DRCF of 0, which every mode takes; so the field that
+ * is tried alone decides. */
+static void constraint_numbers(void)
+{
+    unsigned service, mode;
+
+    memset(book + CONSTRAINT_AT + 16, 0, 20);
+    for (service = 0; service < 256; service++) {
+        book[CONSTRAINT_AT + 4] = (uint8_t)service;
+        for (mode = 0; mode < 256; mode++) {
+            expect_taken("1,000 x service + mode", 1000 * service + mode,
+                         check_with(CONSTRAINT_AT + 6, (uint8_t)mode),
+                         is_service(service) && is_mode_of(service, mode));
+        }
+    }
+}
+
+static void energy_numbers(void)
+{
+    unsigned number;
+
+    for (number = 0; number < 256; number++) {
+        expect_taken("region", number,
+                     check_with(ENERGIES_AT + 4, (uint8_t)number),
+                     is_region(number));
+    }
+}
+
+/* A book of one contract, whose benefit is all the first region's: 1,000,000 is
+ * 0x0F4240. */
+static void contract_numbers(void)
+{
+    enum { LEN = CONSTRAINT_AT + FERVOLATRO_CONTRACT_SIZE };
+    uint8_t other[LEN] = {0};
+    uint8_t *contract = other + CONSTRAINT_AT;
+    unsigned number;
+
+    memcpy(other, book, 14);
+    other[20] = 1;
+    contract[0] = 1;
+    memcpy(contract + 16, (uint8_t[]){0x40, 0x42, 0x0F}, 3);
+    for (number = 0; number < 256; number++) {
+        contract[4] = (uint8_t)number;
+        expect_taken("contract kind", number,
+                     fervolatro_check(other, LEN).refusal,
+                     is_contract_kind(number));
+    }
+}
+
+/* A statement of one line, of 0. */
+static uint64_t line_of(unsigned part, unsigned regions)
+{
+    enum { LEN = LINE_AT + FERVOLATRO_LINE_SIZE };
+    uint8_t one[LEN] = {0};
+    uint8_t *line = one + LINE_AT;
+
+    memcpy(one, statement, LINE_AT);
+    one[14] = 1;
+    line[0] = 1;
+    line[4] = (uint8_t)part;
+    line[5] = (uint8_t)regions;
+    line[8] = part >= FERVOLATRO_PART_UNIT_FPP
+              && part <= FERVOLATRO_PART_UNIT_UNUSED;
+    return fervolatro_header(one, LEN).refusal;
+}
+
+static void line_numbers(void)
+{
+    unsigned number;
+
+    for (number = 0; number < 256; number++) {
+        expect_taken("part", number, line_of(number, FERVOLATRO_REGION_BIT_SA1),
+                     is_part(number));
+        expect_taken("region bit", number,
+                     line_of(FERVOLATRO_PART_CONTRACT_ACE, number),
+                     is_region_bit(number));
+    }
+}
+
+int main(int argc, char **argv)
+{
+    if (argc != 2) {
+        fprintf(stderr, "usage: %s WORKED_BOOK\n", argv[0]);
+        return 2;
+    }
+    read_book(argv[1]);
+    refusals_of_a_book();
+    refusals_of_a_statement();
+    line_numbers();
+    energy_numbers();
+    contract_numbers();
+    constraint_numbers();
+
+    return failures == 0 ? EXIT_SUCCESS : EXIT_FAILURE;
+}

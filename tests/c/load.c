@@ -1,0 +1,173 @@
+/*
+ * Loads the shared library, as a program does that was not linked with it, and
+ * makes every call of the header on the worked book. The paths of the library and
+ * of the book are the arguments.
+ *
+ * Exits non-zero with a message if the library or a call is not there, or if an
+ * answer is not the expected one.
+ */
+#include <dlfcn.h>
+#include <inttypes.h>
+#include <stdio.h>
+#include <stdlib.h>
+#include <string.h>
+
+#include "fervolatro.h"
+
+enum {
+    BOOK_LEN = 272,
+    LINES = 12,
+    STATEMENT_LEN =
+        FERVOLATRO_STATEMENT_HEADER_SIZE + LINES * FERVOLATRO_LINE_SIZE
+};
+
+/* ---- The calls, each of the type that the header has for it. */
+
+#define CALL(name) __typeof__(fervolatro_##name) *name
+
+static struct {
+    CALL(check);
+    CALL(statement);
+    CALL(balance);
+    CALL(header);
+    CALL(line);
+    CALL(rewrite);
+} library;
+
+static void *find(void *loaded, const char *name)
+{
+    void *found = dlsym(loaded, name);
+
+    if (found == NULL) {
+        fprintf(stderr, "%s\n", dlerror());
+        exit(1);
+    }
+    return found;
+}
+
+#define FIND(loaded, name)       \
+    library.name = (__typeof__(library.name))find(loaded, "fervolatro_" #name)
+
+static void *load(const char *path)
+{
+    void *loaded = dlopen(path, RTLD_NOW | RTLD_LOCAL);
+
+    if (loaded == NULL) {
+        fprintf(stderr, "%s\n", dlerror());
+        exit(1);
+    }
+    FIND(loaded, check);
+    FIND(loaded, statement);
+    FIND(loaded, balance);
+    FIND(loaded, header);
+    FIND(loaded, line);
+    FIND(loaded, rewrite);
+    return loaded;
+}
+
+/* ---- Their answers. */
+
+static int failures = 0;
+
+static void expect(const char *name, int64_t got, int64_t expected)
+{
+    if (got != expected) {
+        fprintf(stderr, "%s: expected %" PRId64 ", got %" PRId64 "\n", name,
+                expected, got);
+        failures++;
+    }
+}
+
+static void read_book(const char *path, uint8_t book[BOOK_LEN])
+{
+    FILE *file = fopen(path, "rb");
+
+    if (file == NULL || fread(book, 1, BOOK_LEN, file) != BOOK_LEN) {
+        fprintf(stderr, "%s is not the worked book\n", path);
+        exit(2);
+    }
+    fclose(file);
+}
+
+/* What rounding leaves over in the three pools, which are all. */
+static void balances(const uint8_t *book)
+{
+    static const int64_t left[] = {1, 0, 0};
+    uint64_t number;
+
+    for (number = 0; number < 3; number++) {
+        fervolatro_pool pool = library.balance(book, BOOK_LEN, number);
+
+        expect("balance", (int64_t)pool.refusal, FERVOLATRO_NOT_REFUSED);
+        expect("lines of a pool", (int64_t)pool.lines, 7);
+        expect("left over", pool.amount + pool.sum, left[number]);
+    }
+    expect("pool 3", (int64_t)library.balance(book, BOOK_LEN, 3).refusal,
+           FERVOLATRO_REFUSED_PAST_END);
+}
+
+/* Account 7's, of 312 bytes; 311 are too few, and account 8 is not there. */
+static void statements(const uint8_t *book, uint8_t statement[STATEMENT_LEN])
+{
+    fervolatro_written written;
+
+    written = library.statement(book, BOOK_LEN, 8, statement, STATEMENT_LEN);
+    expect("account 8", (int64_t)written.refusal, FERVOLATRO_REFUSED_NO_ACCOUNT);
+    written =
+        library.statement(book, BOOK_LEN, 7, statement, STATEMENT_LEN - 1);
+    expect("311 bytes", (int64_t)written.refusal, FERVOLATRO_REFUSED_BUFFER);
+    written = library.statement(book, BOOK_LEN, 7, statement, STATEMENT_LEN);
+    expect("account 7", (int64_t)written.refusal, FERVOLATRO_NOT_REFUSED);
+    expect("its statement's length", (int64_t)written.length, 312);
+}
+
+static void read_back(const uint8_t *statement)
+{
+    fervolatro_heading heading = library.header(statement, STATEMENT_LEN);
+    fervolatro_entry entry = library.line(statement, STATEMENT_LEN, 2);
+
+    expect("header", (int64_t)heading.refusal, FERVOLATRO_NOT_REFUSED);
+    expect("account", (int64_t)heading.account, 7);
+    expect("date", (int64_t)heading.date, 20250608);
+    expect("lines", (int64_t)heading.lines, LINES);
+    expect("line 2", (int64_t)entry.refusal, FERVOLATRO_NOT_REFUSED);
+    expect("id", (int64_t)entry.id, 500);
+    expect("part", (int64_t)entry.part, FERVOLATRO_PART_UNIT_UNUSED);
+    expect("regions", (int64_t)entry.regions, FERVOLATRO_REGION_BIT_NSW1);
+    expect("unit", (int64_t)entry.unit, 1);
+    expect("amount", entry.amount, -335071);
+}
+
+static void write_again(const uint8_t *statement)
+{
+    uint8_t again[STATEMENT_LEN] = {0};
+    fervolatro_written written =
+        library.rewrite(statement, STATEMENT_LEN, again, STATEMENT_LEN);
+
+    expect("rewrite", (int64_t)written.refusal, FERVOLATRO_NOT_REFUSED);
+    expect("rewritten", (int64_t)written.length, STATEMENT_LEN);
+    expect("the same bytes", memcmp(again, statement, STATEMENT_LEN), 0);
+}
+
+int main(int argc, char **argv)
+{
+    uint8_t book[BOOK_LEN], statement[STATEMENT_LEN] = {0};
+    void *loaded;
+
+    if (argc != 3) {
+        fprintf(stderr, "usage: %s LIBRARY WORKED_BOOK\n", argv[0]);
+        return 2;
+    }
+    loaded = load(argv[1]);
+    read_book(argv[2], book);
+
+    expect("check", (int64_t)library.check(book, BOOK_LEN).refusal,
+           FERVOLATRO_NOT_REFUSED);
+    statements(book, statement);
+    balances(book);
+    read_back(statement);
+    write_again(statement);
+    expect("unloading", dlclose(loaded), 0);
+
+    return failures == 0 ? EXIT_SUCCESS : EXIT_FAILURE;
+}
