@@ -14,7 +14,9 @@ use std::time::{Duration, SystemTime};
 
 use fervolatro::testing::worked::worked_book;
 
-use crate::run::{command_file, end, repository, run, run_on, start, worked_file, Folder};
+use crate::run::{
+    command_file, end, is_in_readme, repository, run, run_on, start, worked_file, Folder,
+};
 
 /// What the stand-in does. `wait`, if it is there, makes it stop behind the first crate
 /// until there is a file `go`, for ten seconds at most.
@@ -335,6 +337,7 @@ fn a_run_that_builds_says_so() {
         "{ended}"
     );
     assert_eq!(said.len(), count + 1, "{ended}");
+    assert!(is_in_readme(said[0]), "README has another first line");
     for (place, name) in crates.iter().enumerate() {
         let time = match place % 2 {
             0 => format!("{place} s"),
@@ -344,6 +347,19 @@ fn a_run_that_builds_says_so() {
         assert_eq!(said[place + 1], line);
     }
     ended.must_list_worked_in_the_end();
+}
+
+/// The last line of the first run, as README has it.
+#[test]
+fn the_readme_counts_the_crates() {
+    let count = crates().len();
+    let readme = fs::read_to_string(repository().join("README.md")).expect("it is there");
+    let last = format!("\n    listing: {count} of {count} proved: listing (");
+    assert!(readme.contains(&last), "{last:?} is not in README");
+    assert!(
+        readme.contains(&format!(" the program's {count} crates")),
+        "{count}"
+    );
 }
 
 /// The stand-in waits behind its first crate until that has been said.

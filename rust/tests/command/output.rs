@@ -9,7 +9,9 @@ use std::time::Duration;
 use fervolatro::book::Book;
 use fervolatro::testing::worked::{empty_book, worked_book};
 
-use crate::run::{ask, bash, end, listing, run, start, worked_file, Folder};
+use crate::run::{
+    ask, bash, end, is_in_readme, listing, repository, run, start, worked_file, Folder,
+};
 
 #[test]
 fn a_statement_exits_with_0() {
@@ -27,6 +29,20 @@ fn a_statement_exits_with_0() {
             assert_eq!(ended.status, Some(0), "{ended}");
         }
     }
+}
+
+/// README's first command, and what it prints.
+#[test]
+fn the_readme_shows_what_is_printed() {
+    let asked = "bin/listing 7 books/worked.book";
+    let ended = run(Command::new("bash")
+        .args(["-c", asked])
+        .current_dir(repository()));
+    ended.must_list_worked();
+    assert!(
+        is_in_readme(asked) && is_in_readme(&ended.stdout),
+        "{ended}"
+    );
 }
 
 #[test]

@@ -23,6 +23,13 @@ pub fn repository() -> PathBuf {
     root.canonicalize().expect("the repository is there")
 }
 
+/// Whether README shows these lines, set off as what is printed.
+pub fn is_in_readme(lines: &str) -> bool {
+    let readme = fs::read_to_string(repository().join("README.md")).expect("it is there");
+    let shown: String = lines.lines().map(|line| format!("    {line}\n")).collect();
+    readme.contains(&format!("\n{shown}"))
+}
+
 pub fn worked_file() -> PathBuf {
     repository().join("books/worked.book")
 }
