@@ -1,14 +1,15 @@
 //! What is an account, how many arguments there are, and that no argument is anything
 //! but a number or a name.
 
-use std::ffi::{OsStr, OsString};
+use std::ffi::OsStr;
 use std::net::TcpListener;
 use std::os::unix::ffi::OsStrExt as _;
+use std::process::{Command, Stdio};
 
 use fervolatro::book::Book;
 use fervolatro::testing::worked::worked_book;
 
-use crate::run::{ask, listing, run, worked_file, Folder};
+use crate::run::{ask, command_file, listing, run, worked_file, Folder};
 
 /// Wrong accounts, and what is said of them.
 const WRONG: [(&str, &[&str]); 4] = [
@@ -270,15 +271,17 @@ fn nothing_of_an_argument_is_evaluated() {
     assert_eq!(folder.names(), [""; 0], "a command was run");
 }
 
-/// bash would make a connection of such a name, and read from it.
+/// bash would make a connection of such a name, and wait for what comes.
 #[test]
 fn a_name_is_no_connection() {
     let listener = TcpListener::bind("127.0.0.1:0").expect("a port is free");
     let port = listener.local_addr().expect("it has one").port();
     for front in ["/dev/tcp", "/dev/udp"] {
         for host in ["127.0.0.1", "localhost"] {
-            let file = OsString::from(format!("{front}/{host}/{port}"));
-            run(&mut ask("7", file)).must_fail("No such file or directory");
+            let mut command = Command::new("timeout");
+            command.arg("20").arg(command_file()).arg("7");
+            command.arg(format!("{front}/{host}/{port}"));
+            run(command.stdin(Stdio::null())).must_fail("No such file or directory");
         }
     }
     listener.set_nonblocking(true).expect("it need not wait");

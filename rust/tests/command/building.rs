@@ -15,7 +15,7 @@ use std::time::{Duration, SystemTime};
 use fervolatro::testing::worked::worked_book;
 
 use crate::run::{
-    command_file, end, is_in_readme, repository, run, run_on, start, worked_file, Folder,
+    command_file, end, is_in_readme, repository, run, run_on, start, worked_file, Ended, Folder,
 };
 
 /// What the stand-in does. `wait`, if it is there, makes it stop behind the first crate
@@ -305,20 +305,52 @@ fn it_is_not_built_again_when_other_things_changed() {
     }
 }
 
-/// The program of the copy is a script here, which prints the last line of its source.
+/// Builds a shell script for a program, and asks it about the worked book.
+fn asked_of_script(copied: &Copied, script: &str) -> Ended {
+    copied.write("tests/x86", "#!/bin/sh\nshift\nexec \"$@\"\n");
+    let program = format!("#!/bin/sh\n{script}\n");
+    copied.folder.write("stand-in/program", program);
+    copied.write("crates/listing/src/main.rt", script);
+    run(&mut copied.ask(worked_file()))
+}
+
 #[test]
 fn the_program_that_answers_is_the_one_of_the_sources() {
     let copied = Copied::new();
-    copied.write("tests/x86", "#!/bin/sh\nshift\nexec \"$@\"\n");
-    let answer = |word: &str| {
-        let program = format!("#!/bin/sh\ncat >/dev/null\necho 'account {word}'\n");
-        copied.folder.write("stand-in/program", program);
-        copied.write("crates/listing/src/main.rt", word);
-        let ended = run(&mut copied.ask(worked_file()));
-        assert_eq!(ended.stdout, format!("account {word}\n"), "{ended}");
-    };
     for word in ["first", "second", "third", "second", "first", "first"] {
-        answer(word);
+        let ended = asked_of_script(&copied, &format!("cat >/dev/null; echo account {word}"));
+        assert_eq!(ended.stdout, format!("account {word}\n"), "{ended}");
+    }
+}
+
+/// A program that fails in the middle, that is ended, that reads nothing, or that gives
+/// no answer.
+#[test]
+fn what_a_failed_program_wrote_is_not_printed() {
+    let copied = Copied::new();
+    for (script, words) in [
+        (
+            "cat >/dev/null; echo account 7; exit 3",
+            "failed with status 3",
+        ),
+        ("echo account 7; kill -9 $$", "failed with status 137"),
+        ("exit 1", "failed with status 1"),
+        (
+            "exec /no/such/program",
+            "the listing program failed with status",
+        ),
+        (
+            "cat >/dev/null",
+            "answered neither a statement nor a refusal",
+        ),
+        (
+            "cat >/dev/null; echo accounts",
+            "answered neither a statement nor a refusal",
+        ),
+    ] {
+        let ended = asked_of_script(&copied, script);
+        ended.must_fail_saying(words);
+        assert!(!ended.stderr.contains("can't read"), "{ended}");
     }
 }
 

@@ -7,10 +7,13 @@ use std::thread;
 use std::time::Duration;
 
 use fervolatro::book::Book;
+use fervolatro::testing::generate::book_of_longest_statement;
+use fervolatro::testing::random::Random;
+use fervolatro::testing::report;
 use fervolatro::testing::worked::{empty_book, worked_book};
 
 use crate::run::{
-    ask, bash, end, is_in_readme, listing, repository, run, start, worked_file, Folder,
+    ask, bash, end, is_in_readme, listing, repository, run, run_on, start, worked_file, Folder,
 };
 
 #[test]
@@ -29,6 +32,16 @@ fn a_statement_exits_with_0() {
             assert_eq!(ended.status, Some(0), "{ended}");
         }
     }
+}
+
+/// Of 2,152 lines, more than a pipe holds.
+#[test]
+fn the_longest_statement_is_printed_whole() {
+    let (book, account) = book_of_longest_statement(&mut Random::new(report::seed()));
+    let book = book.encode();
+    let ended = run_on(&mut ask(account.to_string(), "-"), &book);
+    ended.must_answer(account, &book);
+    assert_eq!(ended.stdout.lines().count(), 2_153);
 }
 
 /// README's first command, and what it prints.
