@@ -61,7 +61,7 @@ fn why_unlike(header: &str, of: &Prototype, code: &str, call: &Function) -> Opti
 }
 
 /// The header without its comments, white space made single.
-fn without_comments(header: &str) -> String {
+pub fn without_comments(header: &str) -> String {
     let parts = header.split("/*");
     let code = parts.map(|part| part.split_once("*/").map_or(part, |(_, code)| code));
     let code: Vec<&str> = code.flat_map(str::split_whitespace).collect();

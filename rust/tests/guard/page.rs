@@ -3,6 +3,8 @@
 /// A row of a table, its cells under the columns' names.
 #[derive(Debug)]
 pub struct Row {
+    /// The heading that the table stands under.
+    pub under: String,
     pub columns: Vec<String>,
     pub cells: Vec<String>,
 }
@@ -22,15 +24,24 @@ impl Row {
 /// The rows of all tables: a table is a row of names, a row of dashes, then its rows.
 pub fn rows(page: &str) -> Vec<Row> {
     let mut rows = Vec::new();
+    let mut under = String::new();
     let mut columns: Option<Vec<String>> = None;
     let mut lines = page.lines().peekable();
     while let Some(line) = lines.next() {
         let Some(cells) = cells(line) else {
             columns = None;
+            if line.starts_with('#') {
+                under = line.trim_start_matches(['#', ' ']).to_owned();
+            }
             continue;
         };
         if let Some(columns) = columns.clone() {
-            rows.push(Row { columns, cells });
+            let under = under.clone();
+            rows.push(Row {
+                under,
+                columns,
+                cells,
+            });
         } else if lines.next_if(|line| line.starts_with("|-")).is_some() {
             columns = Some(cells);
         }
@@ -38,14 +49,12 @@ pub fn rows(page: &str) -> Vec<Row> {
     rows
 }
 
+/// The cells of a line that begins and ends with a bar. `\|` is a bar in a cell.
 fn cells(line: &str) -> Option<Vec<String>> {
     let inner = line.trim().strip_prefix('|')?.strip_suffix('|')?;
-    Some(
-        inner
-            .split('|')
-            .map(|cell| cell.trim().to_owned())
-            .collect(),
-    )
+    let inner = inner.replace("\\|", "\0");
+    let cells = inner.split('|');
+    Some(cells.map(|cell| cell.trim().replace('\0', "|")).collect())
 }
 
 /// What stands between single backquotes.
