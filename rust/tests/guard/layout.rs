@@ -26,6 +26,15 @@ const ROWS: &str = "crates/records/specs/Rows.antt";
 const READING: &str = "crates/reading/specs/Reading.antt";
 const BOOK: &str = "crates/book/specs/Header.antt";
 
+/// The files that have the ranges.
+const RULES: [&str; 5] = [
+    BOOK,
+    READING,
+    "crates/calendar/specs/Calendar.antt",
+    "crates/market/specs/Kinds.antt",
+    "crates/records/specs/Rules.antt",
+];
+
 const RECORDS: [Record; 8] = [
     Record::whole("Book header", BOOK, "b"),
     Record::repeated("Region entry", "i * 12", "EntryFields"),
@@ -99,6 +108,19 @@ fn has_whole(text: &str, words: &str) -> bool {
     found.any(|(at, _)| !text[at + words.len()..].starts_with(|next: char| next.is_ascii_digit()))
 }
 
+/// The numbers of a cell, without their commas.
+fn numbers(cell: &str) -> impl Iterator<Item = String> + '_ {
+    let words = cell.split(|letter: char| !letter.is_ascii_digit() && letter != ',');
+    let words = words.map(|word| word.replace(',', ""));
+    words.filter(|word| !word.is_empty())
+}
+
+/// Whether a number stands in a text by itself.
+fn has_number(text: &str, number: &str) -> bool {
+    let mut words = text.split(|letter: char| !letter.is_ascii_digit());
+    words.any(|word| word == number)
+}
+
 /// A number as the page writes it, `39,796`.
 fn number(text: &str) -> Option<usize> {
     text.replace(',', "").parse().ok()
@@ -138,6 +160,13 @@ fn why_unlike(repository: &Repository, record: &Record, rows: &[Row]) -> Vec<Str
         if !record.is_read(definitions, offset, bytes) {
             why.push(format!("{} has no {bytes} bytes at {offset}", record.file));
         }
+        let range = numbers(row.cell("Range").unwrap_or(""));
+        let unknown = range.filter(|number| {
+            !RULES
+                .iter()
+                .any(|file| has_number(repository.text(file), number))
+        });
+        why.extend(unknown.map(|number| format!("no rule has the {number} of its range")));
         end = offset + bytes;
         size = row.under.strip_prefix(&front).map(str::to_owned);
     }
@@ -153,6 +182,60 @@ fn why_unlike(repository: &Repository, record: &Record, rows: &[Row]) -> Vec<Str
         }
     }
     why
+}
+
+/// Bytes of the worked book that the page has otherwise than the proved cases, and a
+/// listing that is not the program's.
+pub fn another_worked_book(repository: &Repository) -> Vec<String> {
+    let page = repository.text(PAGE);
+    let worked = worked_book(repository);
+    let rows = rows(page).into_iter();
+    let rows = rows.filter(|row| row.cell("What they say").is_some());
+    let (mut complaints, mut end) = (Vec::new(), 0);
+    for row in rows {
+        let cell = row.cell("Bytes").unwrap_or("");
+        let offset = number(row.first());
+        let bytes = bytes_of(cell);
+        if offset != Some(end) || worked.get(end..end + bytes.len()) != Some(&bytes[..]) {
+            complaints.push(format!("{PAGE} has {cell} at {}", row.first()));
+        }
+        end += bytes.len();
+    }
+    if end != worked.len() {
+        complaints.push(format!("{PAGE} has {end} bytes of {}", worked.len()));
+    }
+    let listing = repository.text("crates/listing/stdout");
+    if listing.is_empty() || !page.contains(&format!("```\n{listing}```")) {
+        complaints.push(format!("{PAGE} has another listing"));
+    }
+    complaints
+}
+
+/// `52 43`, or so many times the same, 48 bytes `00`.
+fn bytes_of(cell: &str) -> Vec<u8> {
+    let spans = code_spans(cell);
+    let words = spans.first().map_or("", |span| span).split(' ');
+    let bytes = words.filter_map(|word| u8::from_str_radix(word, 16).ok());
+    let times = cell
+        .split_once(" bytes")
+        .and_then(|(times, _)| number(times));
+    bytes.collect::<Vec<u8>>().repeat(times.unwrap_or(1))
+}
+
+/// The bytes of the worked book, as the proved cases have them.
+pub fn worked_book(repository: &Repository) -> Vec<u8> {
+    let cases = repository.text("crates/cases/specs/Cases.antt");
+    let (_, rest) = cases
+        .split_once("\nworked =\n")
+        .expect("the cases have the worked book's bytes");
+    let (list, _) = rest
+        .split_once("\n\n")
+        .expect("a line is left free behind them");
+    let words = list.split(|c: char| !c.is_ascii_digit());
+    let numbers = words.filter(|word| !word.is_empty());
+    numbers
+        .map(|number| number.parse().expect("each is a byte"))
+        .collect()
 }
 
 /// The number that stands behind these words in a file.
@@ -381,17 +464,26 @@ fn is_constant(name: &str) -> bool {
     name.starts_with("FERVOLATRO_") && name.chars().all(letters)
 }
 
-/// A value in digits, `1 << 3` too; what is none of these stays as it is written.
+/// A value in digits, where it is a number, a shift, or a sum of products; what is none of
+/// these stays as it is written.
 fn value_of(value: &str) -> String {
     let value = value.trim().trim_start_matches('(').trim_end_matches(')');
-    let digits = |text: &str| {
-        let text = text.trim().trim_end_matches(['u', 'U', 'l', 'L']);
-        text.parse::<u64>().ok()
-    };
-    let shifted = || {
-        let (one, by) = value.split_once("<<")?;
-        digits(one)?.checked_shl(u32::try_from(digits(by)?).ok()?)
-    };
-    let number = digits(value).or_else(shifted);
+    let number = shifted(value).or_else(|| summed(value));
     number.map_or(value.to_owned(), |number| number.to_string())
+}
+
+fn shifted(value: &str) -> Option<u64> {
+    let (one, by) = value.split_once("<<")?;
+    digits(one)?.checked_shl(u32::try_from(digits(by)?).ok()?)
+}
+
+fn summed(value: &str) -> Option<u64> {
+    let product = |part: &str| part.split('*').map(digits).product::<Option<u64>>();
+    value.split('+').map(product).sum()
+}
+
+/// A number as C writes it, `39796u`.
+fn digits(text: &str) -> Option<u64> {
+    let text = text.trim().trim_end_matches(['u', 'U', 'l', 'L']);
+    text.parse().ok()
 }

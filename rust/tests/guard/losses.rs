@@ -589,6 +589,24 @@ fn a_sentence_of_the_rules_that_is_lost_is_noticed() {
     }
 }
 
+#[test]
+fn a_definition_of_the_guide_without_a_rule_is_noticed() {
+    let repository = Repository::read();
+    let watch = Watch::over(&repository, rules::of_no_rule);
+    watch.notices("anotherLine", |changed| {
+        append(
+            changed,
+            rules::GUIDE_LINES,
+            "abbrev pub anotherLine : Line\n",
+        );
+    });
+    watch.notices("consumedHalf", |changed| {
+        rewrite(changed, rules::PAGE, |text| {
+            text.replace("`consumedHalf`", "`sentHalf`")
+        });
+    });
+}
+
 /// A row of the page's table under a heading, another number in one of its cells.
 fn with_other_number(page: &str, row: &page::Row, column: &str) -> String {
     let (before, after) = page
@@ -645,6 +663,54 @@ fn a_record_of_another_size_is_noticed() {
         watch.notices(title, |changed| {
             replace(changed, layout::PAGE, &heading, &other)
         });
+    }
+}
+
+#[test]
+fn a_range_of_no_rule_is_noticed() {
+    let repository = Repository::read();
+    let watch = Watch::over(&repository, layout::unlike_the_definitions);
+    for (old, new, title) in [
+        (
+            "| 0 to 2,500,000; 0 but",
+            "| 0 to 2,500,001; 0 but",
+            "Constraint",
+        ),
+        (
+            "| constraints | 0 to 64 |",
+            "| constraints | 0 to 65 |",
+            "Book header",
+        ),
+        (
+            "| lines | 0 to 2,152 |",
+            "| lines | 0 to 2,151 |",
+            "Statement header",
+        ),
+    ] {
+        watch.notices(title, |changed| replace(changed, layout::PAGE, old, new));
+    }
+}
+
+#[test]
+fn another_worked_book_on_the_page_is_noticed() {
+    let repository = Repository::read();
+    assert_quiet(layout::another_worked_book, &repository);
+    let watch = Watch::over(&repository, layout::another_worked_book);
+    let changes = [
+        (
+            "`54 08 d5 00 00 00 00 00`",
+            "`54 08 d5 00 00 00 00 01`",
+            "at 92",
+        ),
+        ("| 48 bytes `00` |", "| 47 bytes `00` |", "at 84"),
+        (
+            "\n500 8 1 0 -2.6177\n",
+            "\n500 8 1 0 -2.6178\n",
+            "another listing",
+        ),
+    ];
+    for (old, new, about) in changes {
+        watch.notices(about, |changed| replace(changed, layout::PAGE, old, new));
     }
 }
 
@@ -720,10 +786,11 @@ fn a_refusal_of_other_words_is_noticed() {
 fn names() -> Repository {
     let header = "#define FERVOLATRO_H\n#define FERVOLATRO_LARGEST_BOOK 39796u /* bytes */
 enum { /* refusals, from 0 */ FERVOLATRO_ACCEPTED, FERVOLATRO_SHORT = 1, FERVOLATRO_MARK, };
-typedef enum { FERVOLATRO_SA1 = (1 << 2) } fervolatro_region;\n";
+typedef enum { FERVOLATRO_SA1 = (1 << 2) } fervolatro_region;
+#define FERVOLATRO_LONGEST (24 + 24 * 2152)\n";
     let page = "## Names in the header\n\n| Name | Value |\n|---|---|
 | `FERVOLATRO_LARGEST_BOOK` | 39,796 |\n| `FERVOLATRO_ACCEPTED` | 0 |\n| `FERVOLATRO_SHORT` | 1 |
-| `FERVOLATRO_MARK` | 2 |\n| `FERVOLATRO_SA1` | 4 |\n";
+| `FERVOLATRO_MARK` | 2 |\n| `FERVOLATRO_SA1` | 4 |\n| `FERVOLATRO_LONGEST` | 51,672 |\n";
     repository_of(&[(layout::HEADER, header), (layout::PAGE, page)])
 }
 
@@ -741,6 +808,7 @@ fn a_name_of_the_header_with_another_value_is_noticed() {
         ),
         (layout::HEADER, "SHORT = 1", "SHORT = 3", "FERVOLATRO_MARK"),
         (layout::HEADER, "<< 2", "<< 3", "FERVOLATRO_SA1"),
+        (layout::HEADER, "2152", "2153", "FERVOLATRO_LONGEST"),
         (layout::HEADER, "FERVOLATRO_MARK,", "", "FERVOLATRO_MARK"),
         (
             layout::PAGE,

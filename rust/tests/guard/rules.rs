@@ -13,6 +13,9 @@ pub const PAGE: &str = "docs/RULES.md";
 const RULES: &str = "01";
 const GUIDE: &str = "The guide";
 
+/// The guide's lines, each of whose definitions some row names.
+pub const GUIDE_LINES: &str = "crates/guide/specs/Guide.antt";
+
 /// What the second cell of a row that states no rule begins with.
 const NO_RULE: &str = "no rule: ";
 
@@ -166,6 +169,24 @@ fn item<'a>(text: &'a str, name: &str) -> Option<&'a str> {
     let ends = ["\n}", "\n];", "\n\";"].into_iter();
     let end = ends.filter_map(|end| rest.find(end)).min();
     Some(&rest[..end.unwrap_or(rest.len())])
+}
+
+/// Definitions of the guide's lines that no row names.
+pub fn of_no_rule(repository: &Repository) -> Vec<String> {
+    let rows = rule_rows(repository);
+    let cells = rows.iter().filter_map(|row| row.cell("Definition"));
+    let named: Vec<Cited> = cells.flat_map(cited).collect();
+    let is_named = |name: &str| {
+        let mut named = named.iter();
+        named.any(|cited| cited.name == name && cited.path == Some(GUIDE_LINES))
+    };
+    let lines = repository.text(GUIDE_LINES).lines();
+    let public = lines.filter_map(|line| line.split_once("pub ")?.1.split_once(" :"));
+    let names = public.map(|(name, _)| name);
+    let unnamed = names.filter(|name| !name.contains(' ') && !is_named(name));
+    unnamed
+        .map(|name| format!("{PAGE} has no row for {name} of {GUIDE_LINES}"))
+        .collect()
 }
 
 /// Whether the sentences of the rules are no longer all there, as they were.
