@@ -101,6 +101,18 @@ fn worked_interval_refusals() {
     assert_eq!(reference::listing(&input), "refused 11 at 0\n");
 }
 
+/// "Interval, date and run as in the book", each unlike the others.
+#[test]
+fn header_as_in_the_book() {
+    let mut book = worked_book();
+    book.header.interval = 288;
+    book.header.date = 20_280_229;
+    book.header.run = 99;
+    let listed = reference::listed(&statement(&book, 9));
+    let header = "account 9 date 20280229 interval 288 run 99 lines 9";
+    assert_eq!(listed.lines().next(), Some(header));
+}
+
 /// Usage 1,000,001 is refused 5 at 84.
 #[test]
 fn a_refused_book_leaves_the_buffer() {
