@@ -1,5 +1,6 @@
-//! Guards of `docs/BOOK.md`: that its tables of fields, its limits, its refusals and its
-//! names are those of the definitions and of the C header.
+//! Guards of `docs/BOOK.md`: that its tables of fields, its limits, its numbers, its
+//! refusals, its names and its worked book are those of the definitions, of the code and
+//! of the C header.
 
 use std::collections::BTreeMap;
 
@@ -307,6 +308,87 @@ fn long_numbers(text: &str) -> impl Iterator<Item = &str> {
     let words = text.split(|letter: char| !letter.is_ascii_digit() && letter != ',');
     let words = words.map(|word| word.trim_matches(','));
     words.filter(|word| word.contains(','))
+}
+
+const MARKET: &str = "crates/market/src/lib.rt";
+const POOLS: &str = "crates/balance/specs/Pools.antt";
+
+/// Services, regions and modes that the page numbers or names otherwise than the code's
+/// constants, and parts that it puts in another pool than the definitions.
+pub fn other_numbers(repository: &Repository) -> Vec<String> {
+    let rows = rows(repository.text(PAGE));
+    let market = repository.text(MARKET);
+    let mut complaints = Vec::new();
+    for (title, front, end) in [
+        ("Services", ": Service = Service { number: ", " };"),
+        ("Regions", ": Region = Region { number: ", " };"),
+        ("Modes", ": u8 = ", ";"),
+    ] {
+        let constants = market.lines().filter_map(|line| {
+            let (name, number) = line.trim().strip_suffix(end)?.split_once(front)?;
+            let name = name.strip_prefix("pub const ")?;
+            Some((number.to_owned(), name.replace('_', " ").to_lowercase()))
+        });
+        let constants: Vec<(String, String)> = constants.collect();
+        let of_page = rows.iter().filter(|row| row.under == title);
+        let of_page: Vec<(String, String)> = of_page.map(numbered).collect();
+        let is_same = constants.len() == of_page.len()
+            && constants
+                .iter()
+                .zip(&of_page)
+                .all(|((number, name), (no, said))| {
+                    number == no && said.starts_with(name.as_str())
+                });
+        if !is_same || constants.is_empty() {
+            complaints.push(format!(
+                "{PAGE}, {title}: {of_page:?}, {MARKET} has {constants:?}"
+            ));
+        }
+    }
+    let bits = rows.iter().filter(|row| row.under == "Regions");
+    let is_bit = |row: &&Row| {
+        let bit = number(row.first()).map(|region| (1 << region).to_string());
+        row.cell("Bit in a mask") == bit.as_deref()
+    };
+    let wrong = bits.filter(|row| !is_bit(row));
+    complaints.extend(wrong.map(|row| format!("{PAGE}, Regions: {:?}", row.cells)));
+    complaints.extend(parts_elsewhere(repository, &rows));
+    complaints
+}
+
+/// Number and name of a row, in small letters.
+fn numbered(row: &Row) -> (String, String) {
+    let name = row.cells.get(1).map_or("", String::as_str);
+    (row.first().to_owned(), name.to_lowercase())
+}
+
+/// Parts that the page puts in another pool than the definitions.
+fn parts_elsewhere(repository: &Repository, rows: &[Row]) -> Vec<String> {
+    let mut complaints = Vec::new();
+    let parts: Vec<&Row> = rows.iter().filter(|row| row.under == "Parts").collect();
+    for (kind, pool) in [
+        ("Contingency", "cost"),
+        ("Fpp", "FPP"),
+        ("Used", "used"),
+        ("Unused", "unused"),
+        ("Payment", "payment"),
+    ] {
+        let front = format!(" {kind} part = ");
+        let lines = repository.text(POOLS).lines();
+        let rules = lines.filter_map(|line| line.split_once(&front));
+        let theirs: Vec<String> = rules.flat_map(|(_, rule)| numbers(rule)).collect();
+        let ours = parts.iter().filter(|row| row.cell("Pool") == Some(pool));
+        let ours: Vec<String> = ours.map(|row| row.first().to_owned()).collect();
+        if ours != theirs || ours.is_empty() {
+            complaints.push(format!(
+                "{PAGE}, Parts: {ours:?} of {pool}, {POOLS} has {theirs:?}"
+            ));
+        }
+    }
+    if parts.len() != 10 {
+        complaints.push(format!("{PAGE} has {} parts", parts.len()));
+    }
+    complaints
 }
 
 /// A row of one of the header's tables of refusals.

@@ -751,6 +751,31 @@ fn a_limit_that_is_off_is_noticed() {
 }
 
 #[test]
+fn a_number_that_stands_for_something_else_is_noticed() {
+    let repository = Repository::read();
+    let watch = Watch::over(&repository, layout::other_numbers);
+    let changes = [
+        ("| 6 | slow lower", "| 6 | delayed lower", "Services"),
+        (
+            "| 10 | regulation lower | 1, 2 | factors and residual energy |\n",
+            "",
+            "Services",
+        ),
+        ("| 2 | SA1 | 4 |", "| 2 | TAS1 | 4 |", "Regions"),
+        ("| 3 | TAS1 | 8 |", "| 3 | TAS1 | 4 |", "TAS1"),
+        ("| 1 | factored |", "| 2 | factored |", "Modes"),
+        (
+            "| 7 | residual used | 1 | used |",
+            "| 7 | residual used | 1 | unused |",
+            "Parts",
+        ),
+    ];
+    for (old, new, about) in changes {
+        watch.notices(about, |changed| replace(changed, layout::PAGE, old, new));
+    }
+}
+
+#[test]
 fn a_refusal_of_other_words_is_noticed() {
     let repository = Repository::read();
     let watch = Watch::over(&repository, layout::other_refusals);

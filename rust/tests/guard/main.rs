@@ -104,6 +104,11 @@ fn the_limits_of_the_book_page_are_the_definitions_and_the_header_s() {
 }
 
 #[test]
+fn the_numbers_of_the_book_page_are_the_code_s() {
+    assert_none(&layout::other_numbers(&Repository::read()));
+}
+
+#[test]
 fn the_refusals_of_the_book_page_are_the_header_s() {
     assert_none(&layout::other_refusals(&Repository::read()));
 }
