@@ -101,6 +101,18 @@ fn worked_interval_refusals() {
     assert_eq!(reference::listing(&input), "refused 11 at 0\n");
 }
 
+/// "Interval, date and run as in the book", each unlike the others.
+#[test]
+fn header_as_in_the_book() {
+    let mut book = worked_book();
+    book.header.interval = 288;
+    book.header.date = 20_280_229;
+    book.header.run = 99;
+    let listed = reference::listed(&statement(&book, 9));
+    let header = "account 9 date 20280229 interval 288 run 99 lines 9";
+    assert_eq!(listed.lines().next(), Some(header));
+}
+
 /// Usage 1,000,001 is refused 5 at 84.
 #[test]
 fn a_refused_book_leaves_the_buffer() {
@@ -205,6 +217,46 @@ fn halves_by_hand_for_the_other_account() {
         "2 10 2 0 -0.0001",
     ];
     assert_lines(&small_halves_book(), 9, &lines);
+}
+
+// Amounts as large as the rules let them be.
+
+/// "A line would pass 50,000,000,000 either way" is 12: as much is no refusal. FPP pool
+/// 2,500,000 x 2,400,000 / 120 = 50,000,000,000; the cost is as much and all used. The
+/// lowest DCF of -1,000,000 is of nothing then. All energy is account 7's: of the
+/// contract's payment of 50,000,000,000 it has both halves.
+#[test]
+fn lines_at_the_limit() {
+    let most = 50_000_000_000;
+    let regulated = Constraint {
+        price: 2_500_000,
+        rcr: 2_400_000,
+        usage: 1_000_000,
+        ..constraint(1, 9, 1, 1, most)
+    };
+    let units = [
+        unit_row(1, 1, 7, 1_000_000, 0),
+        unit_row(1, 2, 7, -1_000_000, -1_000_000),
+    ];
+    let energies = [energy_row(7, 0, [-20_000_000, 1, -1, 1])];
+    let costs = [regulated, constraint(2, 2, 0, 1, most)];
+    let mut book = book_of(&costs, &units, &energies);
+    book.contracts = vec![contract(3, 1, most, [1_000_000, 0, 0, 0, 0])];
+    let lines = [
+        "1 3 1 1 5000000.0000",
+        "1 4 1 1 0.0000",
+        "1 5 1 1 0.0000",
+        "1 3 1 2 -5000000.0000",
+        "1 4 1 2 -5000000.0000",
+        "1 5 1 2 0.0000",
+        "1 6 1 0 0.0000",
+        "1 7 1 0 0.0000",
+        "1 8 1 0 0.0000",
+        "2 1 1 0 -5000000.0000",
+        "3 9 1 0 -2500000.0000",
+        "3 10 1 0 -2500000.0000",
+    ];
+    assert_lines(&book, 7, &lines);
 }
 
 // 000, appendix A.

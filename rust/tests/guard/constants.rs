@@ -9,10 +9,10 @@ use fervolatro::testing::edges;
 use fervolatro::testing::generate::Sizes;
 
 use crate::edge::{comments_removed, HEADER};
-use crate::repository::Repository;
+use crate::repository::{without_groups, Repository};
 
 /// What each constant's name begins with; it is left out here.
-const FRONT: &str = "FERVOLATRO_";
+pub const FRONT: &str = "FERVOLATRO_";
 
 const UNITS: &str = "crates/ground/specs/Units.antt";
 const TABLE: &str = "crates/book/specs/Table.antt";
@@ -224,15 +224,6 @@ fn why_not_there(
         .collect();
     let is_there = stands_in(&without_groups(repository.text(file)), &wanted);
     (!is_there).then(|| format!("{}: {file} has no `{wanted}`", names.join(", ")))
-}
-
-/// A text with its numbers written without groups: `50_000_000_000` as `50000000000`.
-fn without_groups(text: &str) -> String {
-    let letters: Vec<char> = text.chars().collect();
-    let is_digit = |at: usize| letters.get(at).is_some_and(char::is_ascii_digit);
-    let is_group = |at: usize| letters[at] == '_' && at > 0 && is_digit(at - 1) && is_digit(at + 1);
-    let kept = (0..letters.len()).filter(|&at| !is_group(at));
-    kept.map(|at| letters[at]).collect()
 }
 
 /// Whether the words stand in a text, and a number at their end ends there.

@@ -6,9 +6,12 @@ use std::rc::Rc;
 use crate::constants;
 use crate::edge;
 use crate::edits;
+use crate::layout;
+use crate::page;
 use crate::promises;
 use crate::rattle::{public_functions, Function};
 use crate::repository::Repository;
+use crate::rules;
 use crate::stack;
 use crate::strays;
 use crate::theorems;
@@ -661,6 +664,373 @@ fn an_edge_of_another_shape_is_noticed() {
     ];
     for (old, new, about) in changes {
         watch.notices(about, |changed| replace(changed, edge::CODE, old, new));
+    }
+}
+
+/// A page with one rule, all that it names, and a sentence that states none.
+fn one_rule() -> Repository {
+    let page = "| 01 | Definition | Function | What shows it |
+|---|---|---|---|
+| one \\| two | `limit` (`crates/low/specs/Low.antt`) | `low::first` | `law` (`crates/low/proofs/Laws.antt`), `low/wrong`, `rust/tests/cases.rs: TABLE, \"a, case\"`, `rust/tests/cases.rs: by_hand` |
+| three | no rule: says what is left out | | |
+";
+    let tests = "use std;\n\nconst TABLE: &[Case] = &[\n    \"a, case\",\n];\n
+const OTHERS: &[Case] = &[\n    \"another\",\n];\n\n#[test]\nfn by_hand() {\n}\n";
+    repository_of(&[
+        (rules::PAGE, page),
+        ("crates/low/src/lib.rt", LOW),
+        ("crates/low/specs/Low.antt", "unfoldable pub limit : N\n"),
+        ("crates/low/proofs/Laws.antt", "pub law : Law\n"),
+        ("crates/low/must-fail/wrong.edit", OF_HELPER),
+        ("rust/tests/cases.rs", tests),
+    ])
+}
+
+#[test]
+fn what_a_rule_names_and_is_gone_is_noticed() {
+    let repository = one_rule();
+    assert_quiet(rules::unfounded, &repository);
+    let watch = Watch::over(&repository, rules::unfounded);
+    let changes = [
+        ("crates/low/specs/Low.antt", "limit", "bound", "limit"),
+        (
+            "crates/low/src/lib.rt",
+            "fn first",
+            "fn third",
+            "low::first",
+        ),
+        ("crates/low/proofs/Laws.antt", "law", "lemma", "law"),
+        ("rust/tests/cases.rs", "TABLE", "TABLES", "TABLE"),
+        ("rust/tests/cases.rs", "a, case", "a case", "a, case"),
+        ("rust/tests/cases.rs", "by_hand", "by_hand_too", "by_hand"),
+        (rules::PAGE, "\"a, case\"", "\"another\"", "another"),
+        (
+            rules::PAGE,
+            "/specs/Low",
+            "/proofs/Laws",
+            "is not of specs/",
+        ),
+        (
+            rules::PAGE,
+            "/proofs/Laws",
+            "/specs/Low",
+            "is not of proofs/",
+        ),
+        (rules::PAGE, "no rule: ", "", "three"),
+    ];
+    for (path, old, new, about) in changes {
+        watch.notices(about, |changed| replace(changed, path, old, new));
+    }
+    for path in repository.files.keys().filter(|path| *path != rules::PAGE) {
+        watch.notices("one | two", |changed| {
+            changed.files.remove(path);
+        });
+    }
+}
+
+#[test]
+fn a_rule_without_a_cell_is_noticed() {
+    let repository = one_rule();
+    let watch = Watch::over(&repository, rules::unfounded);
+    let cells = [
+        ("`limit` (`crates/low/specs/Low.antt`)", "a definition"),
+        ("`low::first`", "a function"),
+        ("one \\| two", "a sentence"),
+    ];
+    for (cell, about) in cells {
+        watch.notices(about, |changed| replace(changed, rules::PAGE, cell, ""));
+    }
+    watch.notices("anything that shows it", |changed| {
+        rewrite(changed, rules::PAGE, |text| {
+            let (front, rest) = text.split_once("`law`").expect("it names the law");
+            let (_, rest) = rest.split_once(" |\n").expect("the row ends");
+            format!("{front} |\n{rest}")
+        });
+    });
+}
+
+/// Of each row of today's page.
+#[test]
+fn a_sentence_of_the_rules_that_is_lost_is_noticed() {
+    let repository = Repository::read();
+    let watch = Watch::over(&repository, rules::lost_words);
+    assert!(rules::rule_rows(&repository).len() >= 200);
+    let page = repository.text(rules::PAGE);
+    let (_, rest) = page.split_once("\n## 01\n").expect("it begins so");
+    let (part, _) = rest.split_once("\n## The guide\n").expect("it ends so");
+    let rows = part.lines().filter(|line| line.starts_with("| "));
+    for row in rows.filter(|line| !line.starts_with("| 01 |")) {
+        watch.notices("the sentences of 01", |changed| {
+            rewrite(changed, rules::PAGE, |text| text.replacen(row, "", 1));
+        });
+    }
+}
+
+#[test]
+fn a_definition_of_the_guide_without_a_rule_is_noticed() {
+    let repository = Repository::read();
+    let watch = Watch::over(&repository, rules::of_no_rule);
+    watch.notices("anotherLine", |changed| {
+        append(
+            changed,
+            rules::GUIDE_LINES,
+            "abbrev pub anotherLine : Line\n",
+        );
+    });
+    watch.notices("consumedHalf", |changed| {
+        rewrite(changed, rules::PAGE, |text| {
+            text.replace("`consumedHalf`", "`sentHalf`")
+        });
+    });
+}
+
+/// A row of the page's table under a heading, another number in one of its cells.
+fn with_other_number(page: &str, row: &page::Row, column: &str) -> String {
+    let (before, after) = page
+        .split_once(&format!("# {}\n", row.under))
+        .expect("the heading is there");
+    let line = format!("| {} |", row.cells.join(" | "));
+    let at = row.columns.iter().position(|name| name == column);
+    let mut cells = row.cells.clone();
+    cells[at.expect("the column is there")].insert(0, '9');
+    let other = format!("| {} |", cells.join(" | "));
+    let after = after.replace("| |", "|  |").replacen(&line, &other, 1);
+    format!("{before}# {}\n{after}", row.under)
+}
+
+/// Offset and width of each field of today's page.
+#[test]
+fn a_field_that_stands_elsewhere_is_noticed() {
+    let repository = Repository::read();
+    let watch = Watch::over(&repository, layout::unlike_the_definitions);
+    let rows = page::rows(repository.text(layout::PAGE)).into_iter();
+    let fields: Vec<page::Row> = rows.filter(|row| row.cell("Field").is_some()).collect();
+    assert!(fields.len() >= 60, "the page has {} fields", fields.len());
+    for row in fields {
+        let (title, _) = row.under.split_once(',').expect("the heading has the size");
+        for column in ["Offset", "Bytes"] {
+            watch.notices(title, |changed| {
+                rewrite(changed, layout::PAGE, |page| {
+                    with_other_number(page, &row, column)
+                });
+            });
+        }
+    }
+}
+
+#[test]
+fn a_record_of_another_size_is_noticed() {
+    let repository = Repository::read();
+    let watch = Watch::over(&repository, layout::unlike_the_definitions);
+    let checks = "crates/records/specs/Inner/Checks.antt";
+    for (name, size, title) in [
+        ("Entry", 12, "Region entry"),
+        ("Constraint", 40, "Constraint"),
+        ("Unit", 20, "Unit row"),
+        ("Energy", 24, "Energy row"),
+        ("Contract", 36, "Contract"),
+    ] {
+        let (old, new) = (
+            format!("{name}Fields = {size}\n"),
+            format!("{name}Fields = {size}0\n"),
+        );
+        watch.notices(title, |changed| replace(changed, checks, &old, &new));
+        let heading = format!("### {title}, {size} bytes\n");
+        let other = format!("### {title}, {size}0 bytes\n");
+        watch.notices(title, |changed| {
+            replace(changed, layout::PAGE, &heading, &other)
+        });
+    }
+}
+
+#[test]
+fn a_range_of_no_rule_is_noticed() {
+    let repository = Repository::read();
+    let watch = Watch::over(&repository, layout::unlike_the_definitions);
+    for (old, new, title) in [
+        (
+            "| 0 to 2,500,000; 0 but",
+            "| 0 to 2,500,001; 0 but",
+            "Constraint",
+        ),
+        (
+            "| constraints | 0 to 64 |",
+            "| constraints | 0 to 65 |",
+            "Book header",
+        ),
+        (
+            "| lines | 0 to 2,152 |",
+            "| lines | 0 to 2,151 |",
+            "Statement header",
+        ),
+    ] {
+        watch.notices(title, |changed| replace(changed, layout::PAGE, old, new));
+    }
+}
+
+#[test]
+fn another_worked_book_on_the_page_is_noticed() {
+    let repository = Repository::read();
+    assert_quiet(layout::another_worked_book, &repository);
+    let watch = Watch::over(&repository, layout::another_worked_book);
+    let changes = [
+        (
+            "`54 08 d5 00 00 00 00 00`",
+            "`54 08 d5 00 00 00 00 01`",
+            "at 92",
+        ),
+        ("| 48 bytes `00` |", "| 47 bytes `00` |", "at 84"),
+        (
+            "\n500 8 1 0 -2.6177\n",
+            "\n500 8 1 0 -2.6178\n",
+            "another listing",
+        ),
+    ];
+    for (old, new, about) in changes {
+        watch.notices(about, |changed| replace(changed, layout::PAGE, old, new));
+    }
+}
+
+#[test]
+fn a_limit_that_is_off_is_noticed() {
+    let repository = Repository::read();
+    let watch = Watch::over(&repository, layout::other_limits);
+    let rows = page::rows(repository.text(layout::PAGE)).into_iter();
+    let limits: Vec<page::Row> = rows.filter(|row| row.under == "Limits").collect();
+    assert_eq!(limits.len(), 10);
+    for row in limits {
+        watch.notices(row.first(), |changed| {
+            rewrite(changed, layout::PAGE, |page| {
+                with_other_number(page, &row, "Number")
+            });
+        });
+    }
+    let changes = [
+        (
+            "crates/book/specs/Header.antt",
+            "(h .units) 600",
+            "(h .units) 601",
+            "unit rows",
+        ),
+        (
+            "crates/ground/specs/Units.antt",
+            "mostLines = 2152",
+            "mostLines = 2153",
+            "longest",
+        ),
+        (layout::HEADER, "51,672", "51,673", "51,673"),
+    ];
+    for (path, old, new, about) in changes {
+        watch.notices(about, |changed| {
+            rewrite(changed, path, |text| text.replacen(old, new, 1));
+        });
+    }
+}
+
+#[test]
+fn a_number_that_stands_for_something_else_is_noticed() {
+    let repository = Repository::read();
+    let watch = Watch::over(&repository, layout::other_numbers);
+    let changes = [
+        ("| 6 | slow lower", "| 6 | delayed lower", "Services"),
+        (
+            "| 10 | regulation lower | 1, 2 | factors and residual energy |\n",
+            "",
+            "Services",
+        ),
+        ("| 2 | SA1 | 4 |", "| 2 | TAS1 | 4 |", "Regions"),
+        ("| 3 | TAS1 | 8 |", "| 3 | TAS1 | 4 |", "TAS1"),
+        ("| 1 | factored |", "| 2 | factored |", "Modes"),
+        (
+            "| 7 | residual used | 1 | used |",
+            "| 7 | residual used | 1 | unused |",
+            "Parts",
+        ),
+    ];
+    for (old, new, about) in changes {
+        watch.notices(about, |changed| replace(changed, layout::PAGE, old, new));
+    }
+}
+
+#[test]
+fn a_refusal_of_other_words_is_noticed() {
+    let repository = Repository::read();
+    let watch = Watch::over(&repository, layout::other_refusals);
+    for number in 1..=15 {
+        let about = format!("refusal {number}");
+        watch.notices(&about, |changed| {
+            let row = format!("\n| {number} | ");
+            rewrite(changed, layout::PAGE, |page| {
+                let (front, refusals) = page.split_once("## Refusals\n").expect("they are there");
+                format!(
+                    "{front}## Refusals\n{}",
+                    refusals.replacen(&row, "\n| 99 | ", 1)
+                )
+            });
+        });
+    }
+    let changes = [
+        (
+            "book shorter than 84 bytes",
+            "book shorter than 85 bytes",
+            "refusal 1",
+        ),
+        ("the entry's offset", "the row's offset", "refusal 9"),
+        ("   12  a line would", "   16  a line would", "refusal 12"),
+        ("index is not below", "index is above", "refusal 15"),
+    ];
+    for (old, new, about) in changes {
+        watch.notices(about, |changed| replace(changed, layout::HEADER, old, new));
+    }
+}
+
+/// A header with constants of both kinds, and the page's table of them.
+fn names() -> Repository {
+    let header = "#define FERVOLATRO_H\n#define FERVOLATRO_LARGEST_BOOK 39796
+enum {\n    /* refusals, from 0 */\n    FERVOLATRO_ACCEPTED = 0,\n    FERVOLATRO_SHORT = 1\n};
+#define FERVOLATRO_LONGEST 51672LL\n";
+    let page = "## Names in the header\n\n| Name | Value |\n|---|---|
+| `FERVOLATRO_LARGEST_BOOK` | 39,796 |\n| `FERVOLATRO_ACCEPTED` | 0 |\n| `FERVOLATRO_SHORT` | 1 |
+| `FERVOLATRO_LONGEST` | 51,672 |\n";
+    repository_of(&[(layout::HEADER, header), (layout::PAGE, page)])
+}
+
+#[test]
+fn a_name_of_the_header_with_another_value_is_noticed() {
+    let names = names();
+    assert_quiet(layout::other_names, &names);
+    let watch = Watch::over(&names, layout::other_names);
+    let changes = [
+        (layout::HEADER, "39796", "39797", "FERVOLATRO_LARGEST_BOOK"),
+        (layout::HEADER, "SHORT = 1", "SHORT = 3", "FERVOLATRO_SHORT"),
+        (layout::HEADER, "51672", "51673", "FERVOLATRO_LONGEST"),
+        (
+            layout::HEADER,
+            "FERVOLATRO_ACCEPTED = 0,",
+            "",
+            "FERVOLATRO_ACCEPTED",
+        ),
+        (
+            layout::PAGE,
+            "| 39,796 |",
+            "| 39,797 |",
+            "FERVOLATRO_LARGEST_BOOK",
+        ),
+        (
+            layout::PAGE,
+            "| `FERVOLATRO_SHORT` | 1 |\n",
+            "",
+            "FERVOLATRO_SHORT",
+        ),
+        (
+            layout::PAGE,
+            "`FERVOLATRO_ACCEPTED`",
+            "`FERVOLATRO_REFUSED`",
+            "FERVOLATRO_REFUSED",
+        ),
+    ];
+    for (path, old, new, about) in changes {
+        watch.notices(about, |changed| replace(changed, path, old, new));
     }
 }
 

@@ -9,11 +9,13 @@
 mod constants;
 mod edge;
 mod edits;
+mod layout;
 mod losses;
 mod page;
 mod promises;
 mod rattle;
 mod repository;
+mod rules;
 mod stack;
 mod theorems;
 mod word_for_word;
@@ -77,9 +79,55 @@ fn every_demand_has_its_theorem() {
 
 #[test]
 fn what_the_pages_cite_is_defined() {
-    for page in ["README.md", "docs/PROMISES.md", "docs/DECISIONS.md"] {
+    let pages = ["PROMISES", "DECISIONS", "BOOK", "RULES"].map(|page| format!("docs/{page}.md"));
+    for page in pages.iter().map(String::as_str).chain(["README.md"]) {
         assert_none(&theorems::undefined(&Repository::read(), page));
     }
+}
+
+#[test]
+fn every_rule_has_its_definition_its_function_and_what_shows_it() {
+    assert_none(&rules::unfounded(&Repository::read()));
+}
+
+#[test]
+fn every_definition_of_the_guide_is_a_rule_s() {
+    assert_none(&rules::of_no_rule(&Repository::read()));
+}
+
+#[test]
+fn every_sentence_of_the_rules_is_there() {
+    assert_none(&rules::lost_words(&Repository::read()));
+}
+
+#[test]
+fn the_fields_of_the_book_page_are_the_definitions() {
+    assert_none(&layout::unlike_the_definitions(&Repository::read()));
+}
+
+#[test]
+fn the_worked_book_of_the_book_page_is_the_proved_one() {
+    assert_none(&layout::another_worked_book(&Repository::read()));
+}
+
+#[test]
+fn the_limits_of_the_book_page_are_the_definitions_and_the_header_s() {
+    assert_none(&layout::other_limits(&Repository::read()));
+}
+
+#[test]
+fn the_numbers_of_the_book_page_are_the_code_s() {
+    assert_none(&layout::other_numbers(&Repository::read()));
+}
+
+#[test]
+fn the_refusals_of_the_book_page_are_the_header_s() {
+    assert_none(&layout::other_refusals(&Repository::read()));
+}
+
+#[test]
+fn the_names_of_the_book_page_are_the_header_s() {
+    assert_none(&layout::other_names(&Repository::read()));
 }
 
 #[test]
@@ -105,19 +153,7 @@ fn the_header_s_constants_are_the_rules() {
 /// The proved cases are about the bytes of the book that README's first command reads.
 #[test]
 fn the_proved_book_is_the_worked_book() {
-    let cases = Repository::read();
-    let cases = cases.text("crates/cases/specs/Cases.antt");
-    let (_, rest) = cases
-        .split_once("\nworked =\n")
-        .expect("the cases have the worked book's bytes");
-    let (list, _) = rest
-        .split_once("\n\n")
-        .expect("a line is left free behind them");
-    let words = list.split(|c: char| !c.is_ascii_digit());
-    let numbers = words.filter(|word| !word.is_empty());
-    let bytes: Vec<u8> = numbers
-        .map(|number| number.parse().expect("each is a byte"))
-        .collect();
+    let bytes = layout::worked_book(&Repository::read());
     let book = concat!(env!("CARGO_MANIFEST_DIR"), "/../books/worked.book");
     assert_eq!(
         bytes,

@@ -1,24 +1,60 @@
 //! Tables, lists, headings and code spans of a page.
 
-/// The cells of each row of all tables: a table is a row of names, a row of dashes, then
-/// its rows.
-pub fn rows(page: &str) -> Vec<Vec<&str>> {
+/// A row of a table, its cells under the columns' names.
+#[derive(Debug)]
+pub struct Row {
+    /// The heading that the table stands under.
+    pub under: String,
+    pub columns: Vec<String>,
+    pub cells: Vec<String>,
+}
+
+impl Row {
+    pub fn first(&self) -> &str {
+        self.cells.first().map_or("", String::as_str)
+    }
+
+    /// The cell under a column, if the table has the column.
+    pub fn cell(&self, column: &str) -> Option<&str> {
+        let at = self.columns.iter().position(|name| name == column)?;
+        self.cells.get(at).map(String::as_str)
+    }
+}
+
+/// The rows of all tables: a table is a row of names, a row of dashes, then its rows.
+pub fn rows(page: &str) -> Vec<Row> {
     let mut rows = Vec::new();
-    let mut is_table = false;
+    let mut under = String::new();
+    let mut columns: Option<Vec<String>> = None;
     let mut lines = page.lines().peekable();
     while let Some(line) = lines.next() {
-        match cells(line) {
-            Some(cells) if is_table => rows.push(cells),
-            Some(_) => is_table = lines.next_if(|line| line.starts_with("|-")).is_some(),
-            None => is_table = false,
+        let Some(cells) = cells(line) else {
+            columns = None;
+            if line.starts_with('#') {
+                under = line.trim_start_matches(['#', ' ']).to_owned();
+            }
+            continue;
+        };
+        if let Some(columns) = columns.clone() {
+            let under = under.clone();
+            rows.push(Row {
+                under,
+                columns,
+                cells,
+            });
+        } else if lines.next_if(|line| line.starts_with("|-")).is_some() {
+            columns = Some(cells);
         }
     }
     rows
 }
 
-fn cells(line: &str) -> Option<Vec<&str>> {
+/// The cells of a line that begins and ends with a bar. `\|` is a bar in a cell.
+fn cells(line: &str) -> Option<Vec<String>> {
     let inner = line.trim().strip_prefix('|')?.strip_suffix('|')?;
-    Some(inner.split('|').map(str::trim).collect())
+    let inner = inner.replace("\\|", "\0");
+    let cells = inner.split('|');
+    Some(cells.map(|cell| cell.trim().replace('\0', "|")).collect())
 }
 
 /// An item of a list that begins with a code span, and its notes, which stand further in:

@@ -70,3 +70,12 @@ fn read_folder(root: &Path, below: &str, files: &mut BTreeMap<String, Rc<str>>) 
         }
     }
 }
+
+/// A text with its numbers written without groups: `50_000_000_000` as `50000000000`.
+pub fn without_groups(text: &str) -> String {
+    let letters: Vec<char> = text.chars().collect();
+    let is_digit = |at: usize| letters.get(at).is_some_and(char::is_ascii_digit);
+    let is_group = |at: usize| letters[at] == '_' && at > 0 && is_digit(at - 1) && is_digit(at + 1);
+    let kept = (0..letters.len()).filter(|&at| !is_group(at));
+    kept.map(|at| letters[at]).collect()
+}

@@ -21,7 +21,7 @@ pub struct Named {
 pub fn named(repository: &Repository) -> Vec<Named> {
     let mut named = Vec::new();
     for row in rows(repository.text(PAGE)) {
-        let [demand, theorems, file, ..] = row[..] else {
+        let [demand, theorems, file, ..] = &row.cells[..] else {
             continue;
         };
         let files = code_spans(file);
@@ -117,8 +117,8 @@ pub fn undefined(repository: &Repository, page: &str) -> Vec<String> {
 }
 
 /// Whether a line of the file states the name's type, or declares it as a record.
-fn defines(text: &str, name: &str) -> bool {
-    let before = ["pub", "abbrev", "unfoldable", "record"];
+pub fn defines(text: &str, name: &str) -> bool {
+    let before = ["pub", "abbrev", "unfoldable", "record", "data"];
     text.lines().any(|line| {
         let mut words = line
             .split_whitespace()
