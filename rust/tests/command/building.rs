@@ -108,6 +108,12 @@ impl Copied {
         calls.lines().count()
     }
 
+    /// How many files the command keeps: two, which are the program and the lock.
+    fn kept(&self) -> usize {
+        let kept = fs::read_dir(self.root().join("target/command"));
+        kept.expect("the program was built").count()
+    }
+
     /// The copy's command, with the stand-in first on the PATH.
     fn ask(&self, file: impl AsRef<Path>) -> Command {
         let path = env::var("PATH").expect("there is a PATH");
@@ -293,6 +299,7 @@ fn it_is_built_again_when_its_sources_changed() {
         assert!(copied.builds(), "{name}: it was not built");
         assert!(!copied.builds(), "{name}: it was built twice");
     }
+    assert_eq!(copied.kept(), 2, "programs of older sources are left");
 }
 
 #[test]
@@ -447,7 +454,9 @@ fn what_is_not_proved_is_not_run() {
     );
     let fails = || {
         let ended = run(&mut copied.ask(worked_file()));
-        ended.must_fail_saying("listing: the listing program is not proved");
+        ended.must_fail_saying(
+            "listing: rt check listing failed, so there is no listing program to run",
+        );
         let said = [
             error,
             " 1 of ",
@@ -565,6 +574,5 @@ fn an_ended_build_is_none() {
     assert!(ended.stdout.is_empty() && ended.status.is_none(), "{ended}");
     assert!(copied.builds());
     assert_eq!(copied.calls(), 2);
-    let left = fs::read_dir(copied.root().join("target/command")).expect("it is there");
-    assert_eq!(left.count(), 2, "the program and the lock");
+    assert_eq!(copied.kept(), 2, "something is left");
 }

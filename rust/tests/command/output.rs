@@ -160,7 +160,7 @@ fn nothing_is_left_behind() {
     run(&mut here(ask("7", "/proc/self/mem"))).must_fail("Input/output error");
     run(&mut here(ask("7", "missing"))).must_fail("No such file");
     run(&mut here(listing(&["7"]))).must_fail_saying("usage");
-    for signal in ["-TERM", "-HUP", "-KILL"] {
+    for signal in ["-TERM", "-KILL"] {
         let mut command = here(ask("7", "-"));
         let mut child = start(&mut command);
         thread::sleep(Duration::from_millis(300));
