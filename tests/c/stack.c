@@ -1,8 +1,8 @@
 /*
  * Sees how much stack the library's calls use: each is made on a stack of its
  * own, painted before. A book and an account are the arguments. Prints the bytes
- * that a check, the statement of the account and the balances, the most over all
- * pools, paint over. Exits non-zero if one of them passes 4 KiB.
+ * that a check, the statement of the account, all its lines read and the balances,
+ * the most over all pools, paint over. Exits non-zero if one of them passes 4 KiB.
  */
 #define _XOPEN_SOURCE 700
 
@@ -20,11 +20,13 @@ enum {
     PAINT = 0xA5,
     /* Of a book, and one byte more, to see that it ends there. */
     LONGEST_BOOK = 39796 + 1,
-    LONGEST_STATEMENT = 51672
+    LONGEST_STATEMENT = 51672,
+    MOST_LINES = 2152
 };
 
 static uint8_t book[LONGEST_BOOK], buffer[LONGEST_STATEMENT];
-static size_t book_len;
+static fervolatro_fields lines[MOST_LINES];
+static size_t book_len, statement_len;
 static uint32_t account;
 static uint64_t pool, refusal;
 
@@ -40,8 +42,17 @@ static void check(void)
 
 static void write_statement(void)
 {
-    refusal = fervolatro_statement(book, book_len, account, buffer,
-                                   sizeof buffer)
+    fervolatro_written written = fervolatro_statement(
+        book, book_len, account, buffer, sizeof buffer);
+
+    refusal = written.refusal;
+    statement_len = (size_t)written.length;
+}
+
+static void read_lines(void)
+{
+    refusal = fervolatro_lines(buffer, statement_len, (uint8_t *)lines,
+                               sizeof lines)
                   .refusal;
 }
 
@@ -122,7 +133,7 @@ static void expect_accepted(const char *call)
 
 int main(int argc, char **argv)
 {
-    size_t checking, writing, balancing;
+    size_t checking, writing, reading, balancing;
 
     if (argc != 3) {
         fprintf(stderr, "usage: %s BOOK ACCOUNT\n", argv[0]);
@@ -137,11 +148,15 @@ int main(int argc, char **argv)
     write_statement();
     expect_accepted("statement");
     writing = used_by(write_statement);
+    read_lines();
+    expect_accepted("lines");
+    reading = used_by(read_lines);
     balancing = used_by_balances();
 
-    printf("check %zu, statement %zu, balance %zu\n", checking, writing,
-           balancing);
-    return checking <= LIMIT && writing <= LIMIT && balancing <= LIMIT
+    printf("check %zu, statement %zu, lines %zu, balance %zu\n", checking,
+           writing, reading, balancing);
+    return checking <= LIMIT && writing <= LIMIT && reading <= LIMIT
+                   && balancing <= LIMIT
                ? EXIT_SUCCESS
                : EXIT_FAILURE;
 }

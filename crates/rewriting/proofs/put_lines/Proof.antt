@@ -41,8 +41,7 @@ loop-less c = search needs
 
 loop-again : tie.Need-loop-again Inv-loop μ-loop
 loop-again c =
-    let line = c .before .before .before .line-at in
-    (
+    let line = c .before .before .before .line-at in (
       search needs,
       laid-more line-pieces _ _ 24 _ (c .before .before .before .before .before .before .loop .inv .1) _ _ (line .ensures) (c .before .before .put-line .ensures .bytes) (omega (arith, line-length (line .result))),
     )

@@ -37,8 +37,7 @@ loop-less c = search needs
 
 loop-again : tie.Need-loop-again Inv-loop μ-loop
 loop-again c =
-    let line = c .before .before .before .line-at in
-    (
+    let line = c .before .before .before .line-at in (
       search needs,
       laid-more fields-pieces _ _ 0 _ (c .before .before .before .before .before .before .loop .inv .1) _ _ (line .ensures) (c .before .before .put-fields .ensures) (omega (arith, fields-length (line .result))),
     )
