@@ -211,12 +211,11 @@ typedef struct {
 fervolatro_verdict fervolatro_check(const uint8_t *book, size_t book_len);
 
 /*
- * The answer of a call that writes a statement.
+ * The answer of a call that writes a statement, or the lines of one.
  *
- * refusal  0 if the statement was written, else the number of the refusal,
- *          1 to 14.
+ * refusal  0 if they were written, else the number of the refusal, 1 to 14.
  * place    where in the book the fault lies, in bytes from its start; 0 if
- *          the statement was written, and for refusals 11 to 14.
+ *          they were written, and for refusals 11 to 14.
  * length   how many bytes were written; 0 if the call is refused.
  */
 typedef struct {
@@ -389,6 +388,60 @@ typedef struct {
  */
 fervolatro_entry fervolatro_line(const uint8_t *statement,
                                  size_t statement_len, uint64_t index);
+
+/*
+ * One line of those that fervolatro_lines hands out; its fields are those of
+ * fervolatro_entry.
+ *
+ * id       of the constraint, or in parts 9 and 10 of the contract.
+ * part     1 to 10, what the line is for.
+ * regions  one bit each, bit 0 for NSW1.
+ * unit     the unit's id in parts 3 to 5, else 0.
+ * amount   in ten-thousandths of a dollar; what the account must pay is
+ *          negative.
+ */
+typedef struct {
+    uint64_t id;
+    uint64_t part;
+    uint64_t regions;
+    uint64_t unit;
+    int64_t amount;
+} fervolatro_fields;
+
+/*
+ * Reads all lines of a statement, which is checked once: an array of
+ * fervolatro_fields, in the order of the lines. To read them one by one with
+ * fervolatro_line costs a check of the whole statement each.
+ *
+ *   No  Given exactly when                              Place
+ *    0  none of the rows below applies                  0
+ *   14  the bytes are not a statement, as               0
+ *       fervolatro_header has it
+ *   13  buffer_len below 40 x lines                     0
+ *
+ * 14 is looked for first.
+ *
+ * Where the answer is 0, its length is 40 x lines, and so many bytes at the
+ * front of the buffer are the lines: five numbers each, of 64 bits,
+ * little-endian, the amount in two's complement. On x86-64 that is an array of
+ * fervolatro_fields:
+ *
+ *   fervolatro_fields lines[FERVOLATRO_MOST_LINES];
+ *   fervolatro_written written = fervolatro_lines(
+ *       statement, statement_len, (uint8_t *)lines, sizeof lines);
+ *
+ * Every later byte is what it was. A refusal leaves every byte of the buffer
+ * what it was.
+ *
+ * statement      the first of statement_len readable bytes.
+ * statement_len  how many bytes are lent to be read.
+ * buffer         the first of buffer_len bytes to write to, none of them in
+ *                the statement; it may stand at any address.
+ * buffer_len     how many bytes are lent to be written.
+ */
+fervolatro_written fervolatro_lines(const uint8_t *statement,
+                                    size_t statement_len, uint8_t *buffer,
+                                    size_t buffer_len);
 
 /*
  * Writes a statement that was read again: its header, and its lines in their

@@ -1,7 +1,7 @@
 //! Safe calls into the proved Fervolatro library, and what it is tested with.
 //!
-//! [`check`], [`statement()`], [`balance`], [`header`], [`line()`] and [`rewrite`]
-//! are the library's own answers. [`mod@reference`] is a second, independent
+//! [`check`], [`statement()`], [`balance`], [`header`], [`line()`], [`lines()`],
+//! [`unpack`] and [`rewrite`] are the library's own answers. [`mod@reference`] is a second, independent
 //! statement of the same rules, written from the scope document (01) alone;
 //! [`book`] and [`mod@statement`] have the records and their bytes, [`testing`]
 //! what the tests build books and statements with. `cargo test` compares the two
@@ -10,6 +10,7 @@
 
 use std::error::Error;
 use std::fmt;
+use std::vec;
 
 pub mod book;
 pub mod fast;
@@ -74,6 +75,15 @@ pub struct Entry {
     pub unit: u32,
     /// In ten-thousandths of a dollar; what the account must pay is negative.
     pub amount: i64,
+}
+
+/// The numbers of a line as [`unpack`] writes them: five, of eight bytes each.
+type Fields = [[u8; 8]; 5];
+
+/// The lines of a statement in their order, as one call handed them out.
+#[derive(Clone, Debug)]
+pub struct Lines {
+    fields: vec::IntoIter<Fields>,
 }
 
 /// Checks a book: any bytes are either accepted or refused for one reason, the
@@ -148,6 +158,49 @@ pub fn line(statement: &[u8], index: u64) -> Result<Entry, Refusal> {
     library::line(statement, index).into_result()
 }
 
+/// Reads all lines of a statement, which is checked once: any bytes are either a
+/// statement or refused with 14.
+///
+/// ```
+/// use fervolatro::testing::worked::worked_statement;
+///
+/// let lines = fervolatro::lines(&worked_statement().encode()).unwrap();
+/// assert_eq!(lines.len(), 12);
+/// assert_eq!(lines.map(|entry| entry.amount).max(), Some(591_300));
+/// let refusal = fervolatro::lines(b"RCS").unwrap_err();
+/// assert_eq!(refusal.to_string(), "refused 14 at 0");
+/// ```
+pub fn lines(statement: &[u8]) -> Result<Lines, Refusal> {
+    // As many as a statement of that length has. Longer bytes are none.
+    let count = statement.len().saturating_sub(24) / 24;
+    let mut fields = vec![Fields::default(); count.min(2_152)];
+    let numbers = fields.as_flattened_mut().as_flattened_mut();
+    let length = unpack(statement, numbers)?;
+    assert_eq!(length, numbers.len(), "a line is handed out as 40 bytes");
+    Ok(Lines {
+        fields: fields.into_iter(),
+    })
+}
+
+/// Writes the numbers of all lines of a statement at the front of the buffer and
+/// gives how many bytes they are: id, part, regions, unit and amount of each, in
+/// 64 bits, little-endian. Later bytes stay. A refusal leaves every byte of the
+/// buffer. 14 is looked for first, then 13.
+///
+/// ```
+/// use fervolatro::testing::worked::worked_statement;
+///
+/// let statement = worked_statement().encode();
+/// let mut buffer = [7; 488];
+/// assert_eq!(fervolatro::unpack(&statement, &mut buffer), Ok(480));
+/// assert_eq!(buffer[32..40], 591_300_i64.to_le_bytes());
+/// assert_eq!(buffer[480..], [7; 8]);
+/// ```
+pub fn unpack(statement: &[u8], buffer: &mut [u8]) -> Result<usize, Refusal> {
+    let written = library::lines(statement, buffer);
+    written.into_result(buffer.len())
+}
+
 /// Writes a statement again at the front of the buffer, header and lines in their
 /// order, and gives its length; later bytes stay. A refusal leaves every byte of
 /// the buffer. 14 is looked for first, then 13.
@@ -166,6 +219,27 @@ pub fn rewrite(statement: &[u8], buffer: &mut [u8]) -> Result<usize, Refusal> {
     written.into_result(buffer.len())
 }
 
+impl Iterator for Lines {
+    type Item = Entry;
+
+    fn next(&mut self) -> Option<Entry> {
+        let [id, part, regions, unit, amount] = self.fields.next()?;
+        Some(Entry {
+            id: field(u64::from_le_bytes(id)),
+            part: field(u64::from_le_bytes(part)),
+            regions: field(u64::from_le_bytes(regions)),
+            unit: field(u64::from_le_bytes(unit)),
+            amount: i64::from_le_bytes(amount),
+        })
+    }
+
+    fn size_hint(&self) -> (usize, Option<usize>) {
+        self.fields.size_hint()
+    }
+}
+
+impl ExactSizeIterator for Lines {}
+
 // What the library never answers is not passed over in silence.
 
 impl library::Verdict {
@@ -180,12 +254,12 @@ impl library::Verdict {
 }
 
 impl library::Written {
-    /// The answer as a result. A statement has place 0 and lies within the buffer,
-    /// a refusal has length 0.
+    /// The answer as a result. What is written has place 0 and lies within the
+    /// buffer, a refusal has length 0.
     fn into_result(self, room: usize) -> Result<usize, Refusal> {
         let length = usize::try_from(self.length).expect("a length fits the memory");
         if self.refusal == 0 {
-            assert_eq!(self.place, 0, "a statement has no place");
+            assert_eq!(self.place, 0, "what is written has no place");
             assert!(length <= room, "{length} bytes written into {room}");
             return Ok(length);
         }

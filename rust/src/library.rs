@@ -75,6 +75,13 @@ mod linked {
 
         fn fervolatro_line(statement: *const u8, statement_len: usize, index: u64) -> Entry;
 
+        fn fervolatro_lines(
+            statement: *const u8,
+            statement_len: usize,
+            buffer: *mut u8,
+            buffer_len: usize,
+        ) -> Written;
+
         fn fervolatro_rewrite(
             statement: *const u8,
             statement_len: usize,
@@ -116,6 +123,18 @@ mod linked {
     pub(crate) fn line(statement: &[u8], index: u64) -> Entry {
         // SAFETY: as for a check.
         unsafe { fervolatro_line(statement.as_ptr(), statement.len(), index) }
+    }
+
+    pub(crate) fn lines(statement: &[u8], buffer: &mut [u8]) -> Written {
+        // SAFETY: as for a statement.
+        unsafe {
+            fervolatro_lines(
+                statement.as_ptr(),
+                statement.len(),
+                buffer.as_mut_ptr(),
+                buffer.len(),
+            )
+        }
     }
 
     pub(crate) fn rewrite(statement: &[u8], buffer: &mut [u8]) -> Written {
@@ -293,19 +312,24 @@ mod bridged {
         }
     }
 
+    pub(crate) fn lines(statement: &[u8], buffer: &mut [u8]) -> Written {
+        ask_to_write(request(b'a', statement), buffer)
+    }
+
     pub(crate) fn rewrite(statement: &[u8], buffer: &mut [u8]) -> Written {
         ask_to_write(request(b'r', statement), buffer)
     }
 }
 
 #[cfg(not(any(target_arch = "x86_64", feature = "native")))]
-pub(crate) use bridged::{balance, check, header, line, rewrite, statement};
+pub(crate) use bridged::{balance, check, header, line, lines, rewrite, statement};
 #[cfg(any(target_arch = "x86_64", feature = "native"))]
-pub(crate) use linked::{balance, check, header, line, rewrite, statement};
+pub(crate) use linked::{balance, check, header, line, lines, rewrite, statement};
 
 #[cfg(test)]
 mod tests {
     use super::{Entry, Heading, Pool, Verdict, Written};
+    use crate::fast::Fields;
     use std::mem::offset_of;
 
     const HEADER: &str = include_str!("../../include/fervolatro.h");
@@ -340,5 +364,6 @@ mod tests {
             refusal place account date interval run lines);
         assert_layout!(Entry, "fervolatro_entry", 56:
             refusal place id part regions unit amount);
+        assert_layout!(Fields, "fervolatro_fields", 40: id part regions unit amount);
     }
 }

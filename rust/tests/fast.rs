@@ -1,12 +1,13 @@
 //! Compares the fast version, which the benchmark holds the library against, with
 //! the reference: checks, statements and balances of accepted books of every size,
-//! of books with faults, fields at their edges and turned bits. The library is not
-//! asked. The same seed gives the same run; the environment variable FERVOLATRO_SEED
+//! of books with faults, fields at their edges and turned bits; and all lines of
+//! statements, of any bytes. The library is not asked. The same seed gives the same run; the environment variable FERVOLATRO_SEED
 //! sets another one.
 
 use std::fmt::{Debug, Write as _};
 
 use fervolatro::book::{Book, Sections};
+use fervolatro::fast::Fields;
 use fervolatro::testing::accounts::{named, share_units, some_account};
 use fervolatro::testing::damage::turn_bit;
 use fervolatro::testing::edges;
@@ -18,7 +19,8 @@ use fervolatro::testing::halves::book_of_halves;
 use fervolatro::testing::lent::Lent;
 use fervolatro::testing::random::Random;
 use fervolatro::testing::report::{self, shown};
-use fervolatro::testing::worked::{empty_book, worked_book};
+use fervolatro::testing::statements::{any_statement, statement_of_every_part};
+use fervolatro::testing::worked::{empty_book, empty_statement, worked_book, worked_statement};
 use fervolatro::{fast, reference, Refusal};
 
 const CALLS: [&str; 3] = ["check", "statement", "balance"];
@@ -247,5 +249,104 @@ fn turned_bits(run: &mut Run) {
         let bit = run.random.below(8 * bytes.len());
         turn_bit(&mut bytes, bit);
         run.compare_damaged(&book, &bytes);
+    }
+}
+
+#[test]
+fn fast_and_reference_read_the_same_lines() {
+    let mut reading = Reading {
+        random: Random::new(report::seed()),
+        answers: [0; 16],
+    };
+    every_length_and_bit(&mut reading);
+    statement_edges(&mut reading);
+    long_statements(&mut reading);
+    for (number, given) in reading.answers.into_iter().enumerate() {
+        let wanted = [0, 13, 14].contains(&number);
+        assert_eq!(given > 0, wanted, "{number} came {given} times");
+    }
+}
+
+/// How often all lines of a statement were answered by each number.
+struct Reading {
+    random: Random,
+    answers: [u64; 16],
+}
+
+impl Reading {
+    /// Compares all lines in just enough room, in one line's less, and in some more.
+    fn compare(&mut self, bytes: &[u8]) {
+        let lines = (bytes.len() / 24).saturating_sub(1);
+        let more = lines + self.random.below(3);
+        for room in [lines, lines.saturating_sub(1), more] {
+            self.compare_in(bytes, room);
+        }
+    }
+
+    fn compare_in(&mut self, bytes: &[u8], room: usize) {
+        let before = Fields {
+            id: self.random.bits(),
+            ..Fields::default()
+        };
+        let mut theirs = vec![before; room];
+        let words = |fields: &[Fields]| -> Vec<u8> {
+            let words = fields.iter().flat_map(Fields::words);
+            words.flat_map(u64::to_le_bytes).collect()
+        };
+        let mut ours = words(&theirs);
+        let fast = fast::lines(bytes, &mut theirs).map(|count| 40 * count);
+        let reference = reference::unpack(bytes, &mut ours);
+        assert_eq!(fast, reference, "room {room}, {}", shown(bytes));
+        assert!(words(&theirs) == ours, "room {room}, {}", shown(bytes));
+        let number = reference.map_or_else(|refusal| refusal.number, |_| 0);
+        self.answers[usize::from(number)] += 1;
+    }
+
+    fn compare_turned(&mut self, bytes: &mut [u8], bit: usize) {
+        turn_bit(bytes, bit);
+        self.compare(bytes);
+        turn_bit(bytes, bit);
+    }
+}
+
+fn every_length_and_bit(reading: &mut Reading) {
+    let every_part = statement_of_every_part(&mut reading.random);
+    for statement in [empty_statement(), worked_statement(), every_part] {
+        let mut bytes = statement.encode();
+        for bit in 0..8 * bytes.len() {
+            reading.compare_turned(&mut bytes, bit);
+        }
+        bytes.extend([0; 48]);
+        for length in 0..=bytes.len() {
+            reading.compare(&bytes[..length]);
+        }
+    }
+}
+
+/// Every field of the header and of each line, just inside and just past both ends of
+/// its range.
+fn statement_edges(reading: &mut Reading) {
+    for _ in 0..40 {
+        let mut bytes = statement_of_every_part(&mut reading.random).encode();
+        edges::each(&mut bytes, 0, edges::STATEMENT_HEADER, |bytes| {
+            reading.compare(bytes);
+        });
+        for line in 1..=10 {
+            edges::each(&mut bytes, 24 * line, edges::LINE, |bytes| {
+                reading.compare(bytes);
+            });
+        }
+    }
+}
+
+/// Any lines, as many as there can be and more, and one bit of them turned.
+fn long_statements(reading: &mut Reading) {
+    for lines in [0, 1, 2, 100, 1_000, 2_151, 2_152, 2_153, 8_192] {
+        for _ in 0..20 {
+            let mut bytes = any_statement(&mut reading.random, lines).encode();
+            reading.compare(&bytes);
+            let bit = reading.random.below(8 * bytes.len());
+            reading.compare_turned(&mut bytes, bit);
+        }
     }
 }

@@ -1,8 +1,9 @@
 //! Compares how the library and the reference read statements back: those that the
 //! library writes, those of any lines, each field at and past its edges, other
 //! orders, other counts, truncations, turned bits, noise. For each the header, some
-//! lines, and writing it again into several buffers have to be answered the same,
-//! and the bytes around the buffer stay untouched. The same seed gives the same
+//! lines, all lines at once, their numbers into several buffers, and writing it again
+//! into several have to be answered the same, and the bytes around the buffer stay
+//! untouched. The same seed gives the same
 //! run; the environment variable FERVOLATRO_SEED sets another one.
 
 use std::fmt::{self, Debug, Write as _};
@@ -26,6 +27,9 @@ const FEWEST_INPUTS: u64 = 200_000;
 /// A header, and each line, in bytes.
 const RECORD: usize = 24;
 
+/// The numbers of a line, in bytes.
+const FIELDS: usize = 40;
+
 const MOST_LINES: usize = 2_152;
 
 /// The most that a line's amount may be, either way.
@@ -45,9 +49,11 @@ const AMOUNTS: [i64; 9] = [
 ];
 
 /// The calls, and every answer that each of them has.
-const CALLS: [(&str, &[usize]); 3] = [
+const CALLS: [(&str, &[usize]); 5] = [
     ("header", &[0, 14]),
     ("line", &[0, 14, 15]),
+    ("lines", &[0, 14]),
+    ("unpack", &[0, 13, 14]),
     ("rewrite", &[0, 13, 14]),
 ];
 
@@ -56,6 +62,8 @@ const CALLS: [(&str, &[usize]); 3] = [
 enum Call {
     Header,
     Line(u64),
+    Lines,
+    Unpack(usize),
     Rewrite(usize),
 }
 
@@ -65,7 +73,9 @@ impl Call {
         match self {
             Call::Header => 0,
             Call::Line(_) => 1,
-            Call::Rewrite(_) => 2,
+            Call::Lines => 2,
+            Call::Unpack(_) => 3,
+            Call::Rewrite(_) => 4,
         }
     }
 }
@@ -75,6 +85,8 @@ impl fmt::Display for Call {
         match self {
             Call::Header => write!(out, "header"),
             Call::Line(index) => write!(out, "line {index}"),
+            Call::Lines => write!(out, "lines"),
+            Call::Unpack(room) => write!(out, "unpack into {room} bytes"),
             Call::Rewrite(room) => write!(out, "rewrite into {room} bytes"),
         }
     }
@@ -88,7 +100,7 @@ fn library_and_reference_read_the_same() {
         random: Random::new(seed),
         family: "",
         inputs: 0,
-        answers: [[0; 16]; 3],
+        answers: [[0; 16]; CALLS.len()],
     };
     for (name, family) in FAMILIES {
         run.family = name;
@@ -133,22 +145,36 @@ struct Run {
     random: Random,
     family: &'static str,
     inputs: u64,
-    answers: [[u64; 16]; 3],
+    answers: [[u64; 16]; CALLS.len()],
 }
 
 impl Run {
     /// Asks both for the header, for the first line and the last, for lines that
-    /// are past the end and one drawn, and to write the statement again. Says
-    /// whether the bytes are a statement.
+    /// are past the end and one drawn, for all lines, each what it is by its number,
+    /// and to write the statement again. Says whether the bytes are a statement.
     fn compare(&mut self, bytes: &[u8]) -> bool {
         self.inputs += 1;
         let heading = (fervolatro::header(bytes), reference::header(bytes));
         let is_statement = self.agree(Call::Header, bytes, heading).is_ok();
+        let library = fervolatro::lines(bytes).map(Vec::from_iter);
+        let lines = self.agree(Call::Lines, bytes, (library, reference::lines(bytes)));
         for index in self.indices(bytes.len()) {
-            let _ = self.compare_line(bytes, index);
+            if let Ok(line) = self.compare_line(bytes, index) {
+                let of_all = lines.as_ref().expect("it is a statement")[index as usize];
+                assert_eq!(line, of_all, "line {index}, {}", shown(bytes));
+            }
+        }
+        let [just, less, more, _] = self.rooms(FIELDS * lines_in(bytes.len()));
+        for room in [just, less, more] {
+            self.compare_into(Call::Unpack(room), bytes, room);
         }
         for room in self.rooms(bytes.len()) {
-            self.compare_rewritten(bytes, room);
+            let written = self.compare_into(Call::Rewrite(room), bytes, room);
+            assert!(
+                written.is_none_or(|again| again == bytes),
+                "{}",
+                shown(bytes)
+            );
         }
         is_statement
     }
@@ -166,22 +192,29 @@ impl Run {
         self.agree(Call::Line(index), bytes, line)
     }
 
-    /// The whole buffers have to be the same, and what is written the bytes read.
-    fn compare_rewritten(&mut self, bytes: &[u8], room: usize) {
+    /// The whole buffers have to be the same. Gives what was written, if anything.
+    fn compare_into(&mut self, call: Call, bytes: &[u8], room: usize) -> Option<Vec<u8>> {
         let mut theirs = Lent::new(room, self.random.bits() as u8);
         let mut ours = theirs.clone();
-        let library = fervolatro::rewrite(bytes, theirs.buffer());
-        let reference = reference::rewrite(bytes, ours.buffer());
-        let call = Call::Rewrite(room);
-        let written = self.agree(call, bytes, (library, reference));
-        let same_bytes = written.is_err() || theirs.buffer()[..bytes.len()] == *bytes;
+        let answers = match call {
+            Call::Unpack(_) => (
+                fervolatro::unpack(bytes, theirs.buffer()),
+                reference::unpack(bytes, ours.buffer()),
+            ),
+            _ => (
+                fervolatro::rewrite(bytes, theirs.buffer()),
+                reference::rewrite(bytes, ours.buffer()),
+            ),
+        };
+        let written = self.agree(call, bytes, answers);
         assert!(
-            theirs == ours && same_bytes,
+            theirs == ours,
             "{}: {call}: {written:?}, first different byte of the buffer {:?}, {}",
             self.place(),
             theirs.first_difference(&ours),
             shown(bytes)
         );
+        Some(theirs.buffer()[..written.ok()?].to_vec())
     }
 
     /// Both answers have to be the same; it is counted.
@@ -219,7 +252,7 @@ impl Run {
     /// drawn: a line that is there, or an index that 32 bits or the length in bytes
     /// would cut to one.
     fn indices(&mut self, length: usize) -> [u64; 5] {
-        let lines = (length / RECORD).saturating_sub(1) as u64;
+        let lines = lines_in(length) as u64;
         let inner = self.random.below(lines as usize + 1) as u64;
         let drawn = *self.random.pick(&[inner, inner, 1 << 32, 1 << 61, 1 << 63]);
         [0, lines.saturating_sub(1), lines, u64::MAX, drawn]
@@ -243,6 +276,8 @@ impl Run {
             let read = self.compare_line(&statement, index);
             assert_eq!(read, Ok(line.entry()), "line {index}");
         }
+        let read = fervolatro::lines(&statement).expect("it is a statement");
+        assert!(read.eq(settled.lines.iter().map(Line::entry)), "all lines");
     }
 
     /// An accepted book in which accounts have several rows, and an account of it.
@@ -302,6 +337,11 @@ impl Run {
         }
         report
     }
+}
+
+/// How many lines a statement of so many bytes has.
+fn lines_in(length: usize) -> usize {
+    (length / RECORD).saturating_sub(1)
 }
 
 /// The offset of a line.

@@ -39,6 +39,25 @@ fn rewritten(bytes: &[u8], room: usize) -> (Result<usize, Refusal>, Vec<u8>) {
     (library, buffer)
 }
 
+/// All lines, on which both have to agree.
+fn all_lines(bytes: &[u8]) -> Result<Vec<Entry>, Refusal> {
+    let library = fervolatro::lines(bytes).map(Iterator::collect);
+    assert_eq!(library, reference::lines(bytes));
+    library
+}
+
+/// The answer to handing out the numbers of all lines, on which both have to agree,
+/// and the buffer of so much room as the library left it.
+fn unpacked(bytes: &[u8], room: usize) -> (Result<usize, Refusal>, Vec<u8>) {
+    let mut buffers = [vec![0xa5; room], vec![0xa5; room]];
+    let library = fervolatro::unpack(bytes, &mut buffers[0]);
+    let reference = reference::unpack(bytes, &mut buffers[1]);
+    assert_eq!(library, reference, "room {room}");
+    let [buffer, ours] = buffers;
+    assert_eq!(buffer, ours, "room {room}");
+    (library, buffer)
+}
+
 /// What the library writes for account 7 of the worked book.
 fn written() -> Vec<u8> {
     let mut buffer = [0; 312];
@@ -101,6 +120,27 @@ fn worked_statement_as_listed() {
     for (index, listed) in (0..).zip(worked_statement().lines) {
         assert_eq!(line(&written(), index), Ok(listed.entry()));
     }
+    let listed = worked_statement().lines.iter().map(Line::entry).collect();
+    assert_eq!(all_lines(&written()), Ok(listed));
+}
+
+/// All lines at once: so many are left as were not taken yet.
+#[test]
+fn lines_taken_one_by_one() {
+    let mut lines = fervolatro::lines(&written()).expect("it is a statement");
+    assert_eq!(lines.len(), 12);
+    let amounts = [591_300, 0, -335_071, -147_825];
+    assert_eq!(
+        lines
+            .by_ref()
+            .take(4)
+            .map(|of| of.amount)
+            .collect::<Vec<_>>(),
+        amounts
+    );
+    assert_eq!(lines.len(), 8);
+    assert_eq!(lines.by_ref().last().map(|of| of.amount), Some(-26_177));
+    assert_eq!((lines.len(), lines.next()), (0, None));
 }
 
 // Which refusal is looked for first.
@@ -141,6 +181,49 @@ fn room_to_write_again() {
     }
 }
 
+/// Twelve lines of five numbers in 8 bytes each: 480 bytes are needed. 14 is looked for
+/// before 13.
+#[test]
+fn room_for_all_lines() {
+    let whole = written();
+    for room in [0, 40, 312, 440, 479] {
+        let untouched = vec![0xa5; room];
+        assert_eq!(unpacked(&whole, room), (Err(refused(13)), untouched));
+    }
+    for room in [480, 481, 600] {
+        let (answer, buffer) = unpacked(&whole, room);
+        assert_eq!(answer, Ok(480));
+        assert_eq!(buffer[480..], vec![0xa5; room - 480]);
+    }
+    for room in [0, 479, 480, 600] {
+        let untouched = vec![0xa5; room];
+        assert_eq!(unpacked(&whole[..311], room), (Err(refused(14)), untouched));
+    }
+}
+
+/// The numbers of the first unit's second and third line, byte by byte: constraint 500
+/// is 0x1f4, and -335,071 is -0x51cdf, in two's complement 0xffff_ffff_fffa_e321.
+#[test]
+fn numbers_byte_by_byte() {
+    let second = [
+        [0xf4, 1, 0, 0, 0, 0, 0, 0],
+        [4, 0, 0, 0, 0, 0, 0, 0],
+        [1, 0, 0, 0, 0, 0, 0, 0],
+        [1, 0, 0, 0, 0, 0, 0, 0],
+        [0, 0, 0, 0, 0, 0, 0, 0],
+    ];
+    let third = [
+        [0xf4, 1, 0, 0, 0, 0, 0, 0],
+        [5, 0, 0, 0, 0, 0, 0, 0],
+        [1, 0, 0, 0, 0, 0, 0, 0],
+        [1, 0, 0, 0, 0, 0, 0, 0],
+        [0x21, 0xe3, 0xfa, 0xff, 0xff, 0xff, 0xff, 0xff],
+    ];
+    let (_, buffer) = unpacked(&written(), 480);
+    assert_eq!(buffer[40..80], second.concat());
+    assert_eq!(buffer[80..120], third.concat());
+}
+
 /// "0 to 2,152 lines": without any, the header is all. Its fields are here at the
 /// upper ends of their ranges.
 #[test]
@@ -160,6 +243,8 @@ fn no_lines() {
     };
     assert_eq!(header(&bytes), Ok(heading));
     assert_eq!(line(&bytes, 0), Err(refused(15)));
+    assert_eq!(all_lines(&bytes), Ok(vec![]));
+    assert_eq!(unpacked(&bytes, 3), (Ok(0), vec![0xa5; 3]));
     assert_eq!(rewritten(&bytes, 23), (Err(refused(13)), vec![0xa5; 23]));
     assert_eq!(rewritten(&bytes, 24), (Ok(24), bytes));
 }
@@ -186,21 +271,32 @@ fn a_line_at_its_ends() {
         amount: -50_000_000_000,
     };
     assert_eq!(line(&bytes, 0), Ok(entry));
+    assert_eq!(all_lines(&bytes), Ok(vec![entry]));
+    let numbers = [
+        [0xff, 0xff, 0xff, 0xff, 0, 0, 0, 0],
+        [5, 0, 0, 0, 0, 0, 0, 0],
+        [31, 0, 0, 0, 0, 0, 0, 0],
+        [0xff, 0xff, 0xff, 0xff, 0, 0, 0, 0],
+        [0x00, 0x8c, 0xc4, 0x5b, 0xf4, 0xff, 0xff, 0xff],
+    ];
+    assert_eq!(unpacked(&bytes, 40), (Ok(40), numbers.concat()));
     assert_eq!(rewritten(&bytes, 48), (Ok(48), bytes));
 }
 
 // What is a statement, rule by rule.
 
-/// All three calls have to see a statement in the bytes, or none.
+/// All calls have to see a statement in the bytes, or none.
 fn assert_read(is_statement: bool, name: &str, bytes: &[u8]) {
     let (answer, buffer) = rewritten(bytes, bytes.len());
     if is_statement {
         assert!(header(bytes).is_ok(), "{name}");
+        assert!(all_lines(bytes).is_ok(), "{name}");
         assert_eq!(answer, Ok(bytes.len()), "{name}");
         assert_eq!(buffer, bytes, "{name}");
     } else {
         assert_eq!(header(bytes), Err(refused(14)), "{name}");
         assert_eq!(line(bytes, 0), Err(refused(14)), "{name}");
+        assert_eq!(all_lines(bytes), Err(refused(14)), "{name}");
         assert_eq!(answer, Err(refused(14)), "{name}");
     }
 }

@@ -9,6 +9,7 @@
  *   'b', the book, a u64 pool: the answer is fervolatro_pool, field by field;
  *   'h', the statement: the answer is fervolatro_heading, field by field;
  *   'l', the statement, a u64 index: the answer is fervolatro_entry, field by field;
+ *   'a', the statement, the buffer: of fervolatro_lines; the answer is as for 's';
  *   'r', the statement, the buffer: the answer is as for 's'.
  * All numbers are little-endian, as both sides are. The end of the input ends the program.
  *
@@ -157,6 +158,16 @@ static void read_line(void)
     give(&entry, sizeof entry);
 }
 
+static void read_all_lines(void)
+{
+    static slice statement, buffer;
+
+    take_slice(&statement);
+    take_buffer(&buffer);
+    give_written(fervolatro_lines(statement.bytes, statement.len, buffer.bytes, buffer.len),
+                 &buffer);
+}
+
 static void rewrite(void)
 {
     static slice statement, buffer;
@@ -187,6 +198,9 @@ int main(void)
             break;
         case 'l':
             read_line();
+            break;
+        case 'a':
+            read_all_lines();
             break;
         case 'r':
             rewrite();

@@ -34,6 +34,7 @@ enum {
     POOL_FIELDS = 5,
     HEADING_FIELDS = 7,
     ENTRY_FIELDS = 7,
+    LINE_FIELDS = 5,
     MOST_FIELDS = 7
 };
 
@@ -46,6 +47,7 @@ HAS_FIELDS(fervolatro_written, WRITTEN_FIELDS);
 HAS_FIELDS(fervolatro_pool, POOL_FIELDS);
 HAS_FIELDS(fervolatro_heading, HEADING_FIELDS);
 HAS_FIELDS(fervolatro_entry, ENTRY_FIELDS);
+HAS_FIELDS(fervolatro_fields, LINE_FIELDS);
 
 static uint64_t field(const void *answer, size_t at)
 {
@@ -100,6 +102,18 @@ static void expect_entry(const char *name, fervolatro_entry got,
                          fervolatro_entry expected)
 {
     expect_fields(name, ENTRY_FIELDS, &got, &expected);
+}
+
+static void expect_line(const char *name, fervolatro_fields got,
+                        fervolatro_entry entry)
+{
+    fervolatro_fields expected = {.id = entry.id,
+                                  .part = entry.part,
+                                  .regions = entry.regions,
+                                  .unit = entry.unit,
+                                  .amount = entry.amount};
+
+    expect_fields(name, LINE_FIELDS, &got, &expected);
 }
 
 /* Fields behind refusal and place: none is 0, as refusal and place then are, and no
@@ -416,6 +430,37 @@ static void good_calls_on_the_statement(const uint8_t *statement)
     expect_left("rewrite", buffer, ROOM, statement, STATEMENT_LEN);
 }
 
+/* All lines at once: 9 x 40 bytes, and what follows is untouched. */
+enum { LINES_LEN = 360 };
+
+_Static_assert(LINES_LEN == LINES * sizeof(fervolatro_fields), "9 x 40");
+
+static void good_call_for_all_lines(const uint8_t *statement)
+{
+    fervolatro_fields lines[LINES + 1];
+    const uint8_t *bytes = (const uint8_t *)lines;
+    uint64_t index;
+
+    memset(lines, UNTOUCHED, sizeof lines);
+    expect_written("lines",
+                   fervolatro_lines(statement, STATEMENT_LEN, (uint8_t *)lines,
+                                    sizeof lines),
+                   (fervolatro_written){.length = LINES_LEN});
+    for (index = 0; index < LINES; index++) {
+        expect_line("one of all lines", lines[index], LINE[index]);
+    }
+    expect_left("lines", bytes, sizeof lines, bytes, LINES_LEN);
+
+    memset(lines, UNTOUCHED, sizeof lines);
+    expect_written("lines into just enough",
+                   fervolatro_lines(statement, STATEMENT_LEN, (uint8_t *)lines,
+                                    LINES_LEN),
+                   (fervolatro_written){.length = LINES_LEN});
+    expect_line("the last of all lines", lines[LINES - 1], LINE[LINES - 1]);
+    expect_left("lines into just enough", bytes, sizeof lines, bytes,
+                LINES_LEN);
+}
+
 /* ---- Refusals: number and place differ, and every other field is 0. */
 
 /* A book of the most records; the last contract's kind is 3, and no earlier
@@ -500,6 +545,27 @@ static void refused_calls_on_a_statement(const uint8_t *statement)
                                       STATEMENT_LEN - 1),
                    (fervolatro_written){.refusal = 13});
     expect_left("rewrite refused", buffer, ROOM, buffer, 0);
+}
+
+/* The same of all lines at once. Where both are too short, it is 14. */
+static void refused_calls_for_all_lines(const uint8_t *statement)
+{
+    uint8_t buffer[LINES_LEN];
+
+    memset(buffer, UNTOUCHED, LINES_LEN);
+    expect_written(
+        "lines refused",
+        fervolatro_lines(statement, STATEMENT_LEN - 1, buffer, LINES_LEN),
+        (fervolatro_written){.refusal = 14});
+    expect_written(
+        "lines into less",
+        fervolatro_lines(statement, STATEMENT_LEN, buffer, LINES_LEN - 1),
+        (fervolatro_written){.refusal = 13});
+    expect_written(
+        "lines refused, into less",
+        fervolatro_lines(statement, STATEMENT_LEN - 1, buffer, LINES_LEN - 1),
+        (fervolatro_written){.refusal = 14});
+    expect_left("lines refused", buffer, LINES_LEN, buffer, 0);
 }
 
 /* ---- Numbers of 2^32 and above, given. */
@@ -587,6 +653,9 @@ static void long_statement(uint8_t *mapped, const uint8_t *statement)
     expect_written("rewrite of a long statement",
                    fervolatro_rewrite(mapped, len, buffer, ROOM),
                    (fervolatro_written){.refusal = 14});
+    expect_written("lines of a long statement",
+                   fervolatro_lines(mapped, len, buffer, ROOM),
+                   (fervolatro_written){.refusal = 14});
     expect_left("rewrite of a long statement", buffer, ROOM, buffer, 0);
 }
 
@@ -609,6 +678,12 @@ static void long_buffer(uint8_t *mapped, const uint8_t *book,
                    whole);
     expect_left("rewrite into a long buffer", mapped, ROOM, statement,
                 STATEMENT_LEN);
+    memset(mapped, UNTOUCHED, LINES_LEN + 1);
+    expect_written("lines into a long buffer",
+                   fervolatro_lines(statement, STATEMENT_LEN, mapped, len),
+                   (fervolatro_written){.length = LINES_LEN});
+    expect_left("lines into a long buffer", mapped, LINES_LEN + 1, mapped,
+                LINES_LEN);
 }
 
 static void lengths(const char *machine, const uint8_t *book,
@@ -675,6 +750,9 @@ static void no_statement_at(const uint8_t *pointer)
     expect_written("rewrite of nothing",
                    fervolatro_rewrite(pointer, 0, buffer, ROOM), refused);
     expect_left("rewrite of nothing", buffer, ROOM, buffer, 0);
+    expect_written("lines of nothing",
+                   fervolatro_lines(pointer, 0, buffer, ROOM), refused);
+    expect_left("lines of nothing", buffer, ROOM, buffer, 0);
 }
 
 /* No buffer: 13, where nothing else is wrong. */
@@ -692,6 +770,9 @@ static void no_buffer_at(uint8_t *pointer, const uint8_t *book,
     expect_written("rewrite into nothing",
                    fervolatro_rewrite(statement, STATEMENT_LEN, pointer, 0),
                    no_room);
+    expect_written("lines into nothing",
+                   fervolatro_lines(statement, STATEMENT_LEN, pointer, 0),
+                   no_room);
 }
 
 /* Neither slice has a byte. */
@@ -702,6 +783,9 @@ static void nothing_into_nothing(const uint8_t *from, uint8_t *into)
                    (fervolatro_written){.refusal = 1});
     expect_written("rewrite of nothing into nothing",
                    fervolatro_rewrite(from, 0, into, 0),
+                   (fervolatro_written){.refusal = 14});
+    expect_written("lines of nothing into nothing",
+                   fervolatro_lines(from, 0, into, 0),
                    (fervolatro_written){.refusal = 14});
 }
 
@@ -794,15 +878,19 @@ static void painted_answers_on_a_statement(const uint8_t *statement)
     numbered_call *line_into = (numbered_call *)(any_call *)fervolatro_line;
     rewrite_call *rewrite_into =
         (rewrite_call *)(any_call *)fervolatro_rewrite;
-    uint8_t buffer[ROOM];
+    rewrite_call *lines_into = (rewrite_call *)(any_call *)fervolatro_lines;
+    static const fervolatro_written all_lines = {.length = LINES_LEN};
+    uint8_t buffer[LINES_LEN];
     painted answer;
 
     header_into(paint(&answer), statement, STATEMENT_LEN);
     expect_painted("header, painted", &answer, HEADING_FIELDS, &HEADING);
     line_into(paint(&answer), statement, STATEMENT_LEN, 1);
     expect_painted("line, painted", &answer, ENTRY_FIELDS, &LINE[1]);
-    rewrite_into(paint(&answer), statement, STATEMENT_LEN, buffer, ROOM);
+    rewrite_into(paint(&answer), statement, STATEMENT_LEN, buffer, LINES_LEN);
     expect_painted("rewrite, painted", &answer, WRITTEN_FIELDS, &whole);
+    lines_into(paint(&answer), statement, STATEMENT_LEN, buffer, LINES_LEN);
+    expect_painted("lines, painted", &answer, WRITTEN_FIELDS, &all_lines);
 }
 
 /* An account has 32 bits, and the upper half of the register that it comes in may
@@ -840,8 +928,10 @@ int main(int argc, char **argv)
     expect_distinct("the first pool", POOL_FIELDS, &POOL[0]);
     good_calls_on_the_book(book, statement);
     good_calls_on_the_statement(statement);
+    good_call_for_all_lines(statement);
     refused_calls_on_a_book();
     refused_calls_on_a_statement(statement);
+    refused_calls_for_all_lines(statement);
     numbers_past_the_end(book, statement);
     accounts_that_are_not_there(book);
     painted_answers_on_a_book(book);

@@ -31,6 +31,7 @@ static struct {
     CALL(balance);
     CALL(header);
     CALL(line);
+    CALL(lines);
     CALL(rewrite);
 } library;
 
@@ -61,6 +62,7 @@ static void *load(const char *path)
     FIND(loaded, balance);
     FIND(loaded, header);
     FIND(loaded, line);
+    FIND(loaded, lines);
     FIND(loaded, rewrite);
     return loaded;
 }
@@ -138,6 +140,21 @@ static void read_back(const uint8_t *statement)
     expect("amount", entry.amount, -335071);
 }
 
+/* All lines at once: the last is the residual's of what was not used. */
+static void read_all(const uint8_t *statement)
+{
+    fervolatro_fields lines[LINES] = {{0}};
+    fervolatro_written written = library.lines(statement, STATEMENT_LEN,
+                                               (uint8_t *)lines, sizeof lines);
+
+    expect("all lines", (int64_t)written.refusal, FERVOLATRO_NOT_REFUSED);
+    expect("their bytes", (int64_t)written.length, (int64_t)sizeof lines);
+    expect("unit of line 3", (int64_t)lines[3].unit, 2);
+    expect("part of the last", (int64_t)lines[LINES - 1].part,
+           FERVOLATRO_PART_RESIDUAL_UNUSED);
+    expect("amount of the last", lines[LINES - 1].amount, -26177);
+}
+
 static void write_again(const uint8_t *statement)
 {
     uint8_t again[STATEMENT_LEN] = {0};
@@ -166,6 +183,7 @@ int main(int argc, char **argv)
     statements(book, statement);
     balances(book);
     read_back(statement);
+    read_all(statement);
     write_again(statement);
     expect("unloading", dlclose(loaded), 0);
 

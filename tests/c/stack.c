@@ -2,8 +2,8 @@
  * Sees how much stack the library's calls use: each is made on a stack of its
  * own, painted before. A book and an account are the arguments. Prints the bytes
  * that each call paints over: a check, the statement of the account, the balances
- * (the most over all pools), and the statement's header, its first line and the
- * statement written again. Exits non-zero if one of them passes 4 KiB.
+ * (the most over all pools), and the statement's header, its first line, all its
+ * lines and the statement written again. Exits non-zero if one of them passes 4 KiB.
  */
 #define _XOPEN_SOURCE 700
 
@@ -25,6 +25,7 @@ enum {
 static uint8_t book[FERVOLATRO_LARGEST_BOOK + 1];
 static uint8_t statement[FERVOLATRO_LARGEST_STATEMENT];
 static uint8_t buffer[FERVOLATRO_LARGEST_STATEMENT];
+static fervolatro_fields lines[FERVOLATRO_MOST_LINES];
 static size_t book_len, statement_len;
 static uint32_t account;
 static uint64_t pool, refusal;
@@ -61,6 +62,13 @@ static void read_header(void)
 static void read_line(void)
 {
     refusal = fervolatro_line(statement, statement_len, 0).refusal;
+}
+
+static void read_lines(void)
+{
+    refusal = fervolatro_lines(statement, statement_len, (uint8_t *)lines,
+                               sizeof lines)
+                  .refusal;
 }
 
 static void rewrite(void)
@@ -168,6 +176,7 @@ int main(int argc, char **argv)
     kept &= shown("balance", used_by_balances());
     kept &= accepted_and_shown("header", read_header);
     kept &= accepted_and_shown("line", read_line);
+    kept &= accepted_and_shown("lines", read_lines);
     kept &= accepted_and_shown("rewrite", rewrite);
     printf("\n");
     return kept ? EXIT_SUCCESS : EXIT_FAILURE;

@@ -17,11 +17,13 @@ use Rattle.accounts.specs.Account.{publicOf}
 use Rattle.parties.specs.Once.{has}
 use Rattle.statement.specs.Lent.{Outcome, refuses, gives, answerFor, leftIn}
 use Rattle.statement.specs.declared.Written.the-variants as written
-use Rattle.reading.specs.Reading.{isStatement, headingAt, lineAt}
+use Rattle.statement.specs.Statement.{statementBytes}
+use Rattle.reading.specs.Reading.{isStatement, headingAt, lineAt, linesIn}
 use Rattle.reading.specs.Calls.{headingRead, lineRead}
 use Rattle.reading.specs.declared.HeadingRead.the-variants as heading
 use Rattle.reading.specs.declared.LineRead.the-variants as line
 use Rattle.rewriting.specs.Rewriting.{rewritten}
+use Rattle.unpacking.specs.Unpacking.{allFields, unpacked}
 use Rattle.settlement.specs.Settle.{outcome}
 use Rattle.balance.specs.Pools.{Found, past, found, poolsIn, poolAt}
 use Rattle.balance.specs.Balance.{answerTo, balancesIn, balanceIf, balanceOf}
@@ -32,7 +34,7 @@ use Rattle.fervolatro.specs.declared.HeadingAnswer.{HeadingAnswer}
 use Rattle.fervolatro.specs.declared.EntryAnswer.{EntryAnswer}
 use Rattle.fervolatro.specs.declared.PoolAnswer.{PoolAnswer}
 use Rattle.demands.specs.Demand1.{onABook, onABalance, onAStatement, onRewriting, OneOf, Answered, written, short, refused, CheckAnswered, PoolAnswered, HeadingAnswered, EntryAnswered, EveryInputIsAnswered}
-use Rattle.demands.proofs.Numbers.{Within, verdict-numbers, outcome-numbers, rewritten-numbers, or-true}
+use Rattle.demands.proofs.Numbers.{Within, verdict-numbers, outcome-numbers, statement-numbers, or-true}
 
 -- ---- the calls that write
 
@@ -77,7 +79,7 @@ line-answered false past₀ s index r a = inr (rw a (refl, refl))
 -- ---- the demand
 
 pub every-input-is-answered : EveryInputIsAnswered
-unfolding balanceOf balancesIn headingRead lineRead has
+unfolding balanceOf balancesIn headingRead lineRead rewritten unpacked has
 every-input-is-answered =
     record {
       check = λ b. checked b (verdict b) refl;
@@ -85,5 +87,6 @@ every-input-is-answered =
       balance = λ b number. pooled b (verdict b) refl (poolAt (poolsIn (publicOf (bookOf b))) number);
       header = λ s. header-answered (isStatement s) s;
       line = λ s index. line-answered (isStatement s) (leb (headingAt s .lines) index) s index;
-      rewrite = λ s. called onRewriting (rewritten s) (rewritten-numbers s) refl;
+      rewrite = λ s. called onRewriting (rewritten s) (statement-numbers s (statementBytes (headingAt s) (linesIn s (headingAt s .lines)))) refl;
+      lines = λ s. called onRewriting (unpacked s) (statement-numbers s (allFields (linesIn s (headingAt s .lines)))) refl;
     }

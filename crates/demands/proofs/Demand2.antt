@@ -1,11 +1,12 @@
 -- Demand 2: every line is the guide's, every pool closes, and both round trips. Where a call does not refuse, the rules give what it answers, and that is
 -- the guide's by the theorems of the crates below. Assumes nothing.
-use Prim.Native.Nat.{ℕ, _<_, _^_}
+use Prim.Native.Nat.{ℕ, _*_, _<_, _^_}
 use mathlib.Core.Path.{_≡_, refl, sym, ap, _∙_, fun-ext}
 use mathlib.Core.Bool.{Bool, true, false, cond}
 use mathlib.Core.List.{List}
 use native.Mathlib.Omega.{arith}
 use lib.ListN.{length}
+use borrow.Author.Tests.{lt-leb}
 use Rattle.ground.specs.Bytes.{AreBytes}
 use Rattle.ground.proofs.Put.{put-there}
 use Rattle.sections.proofs.First.{first-each}
@@ -21,11 +22,17 @@ use Rattle.parties.specs.Once.{has}
 use Rattle.statement.specs.Statement.{statementBytes}
 use Rattle.statement.specs.Lent.{Outcome, refuses, gives}
 use Rattle.statement.specs.declared.Line.{Line}
-use Rattle.reading.specs.Reading.{headingAt, linesIn, isStatement}
+use Rattle.reading.specs.Reading.{headingAt, lineAt, linesIn, isStatement}
 use Rattle.reading.specs.Calls.{headingRead, lineRead}
+use Rattle.reading.specs.declared.HeadingRead.{HeadingRead}
 use Rattle.reading.specs.declared.HeadingRead.the-variants as heading
+use Rattle.reading.specs.declared.LineRead.the-variants as line
+use Rattle.reading.proofs.Laid.{laid-length}
 use Rattle.reading.proofs.Trip.{read-and-written}
 use Rattle.rewriting.specs.Rewriting.{rewritten}
+use Rattle.unpacking.specs.Unpacking.{allFields, unpacked}
+use Rattle.unpacking.proofs.Fields.{fields-length, fields-pieces}
+use Rattle.unpacking.proofs.Handed.{Stands, every-line-stands}
 use Rattle.settlement.specs.Settle.{headingOf, statementOf, outcome}
 use Rattle.balance.specs.Pools.{Pool, Found, past, found, poolsIn, poolAt, inPool}
 use Rattle.balance.specs.Balance.{sumZ, accountsOf, poolLines, lineCount, lineSum, balanceIn, answerTo, balancesIn, balanceIf, balanceOf}
@@ -42,7 +49,7 @@ use Rattle.fervolatro.specs.declared.VerdictAnswer.{VerdictAnswer}
 use Rattle.fervolatro.specs.declared.WrittenAnswer.{WrittenAnswer}
 use Rattle.fervolatro.specs.declared.PoolAnswer.{PoolAnswer}
 use Rattle.demands.specs.Demand1.{OneOf, Gives, Answered, written, short, refused, onAStatement, onRewriting}
-use Rattle.demands.specs.Demand2.{NumbersAreTheGuides, guideStatement, numbered, front, StatementIsTheGuides, PoolCloses, EveryLineIsTheGuides}
+use Rattle.demands.specs.Demand2.{NumbersAreTheGuides, guideStatement, numbered, front, StatementIsTheGuides, fieldsAt, LinesAreTheLineCalls, PoolCloses, EveryLineIsTheGuides}
 use Rattle.demands.proofs.Numbers.{verdict-numbers}
 use Rattle.demands.proofs.Numbered.{line-numbered}
 use Rattle.demands.proofs.Demand1.{every-input-is-answered}
@@ -159,6 +166,55 @@ rewritten-is s bytes xs e = by (isStatement s) refl e
     by true t d = let same : statementBytes (headingAt s) (linesIn s (headingAt s .lines)) ≡ xs = cc in sym same ∙ read-and-written s bytes t
     by false t d = absurd (let z : _≡_ {A = ℕ} 0 1 = cc in omega arith)
 
+-- ---- all lines at once
+
+-- five numbers that are a line's are what the line call answers of it
+fields-are : (xs : List ℕ) (i : ℕ) (y : Line) → Stands xs i y → fieldsAt xs i ≡ entryAnswer (line.Line y)
+unfolding entryAnswer
+fields-are xs i y h = λ j. record { refusal = 0; place = 0; id = h .id j; part = h .part j; regions = h .regions j; unit = h .unit j; amount = h .amount j }
+
+module _ (s : List ℕ) (bytes : AreBytes s) where
+  -- what the rules give where the bytes are a statement
+  record Unpacked (xs : List ℕ) : Type 0 where
+    holds : isStatement s ≡ true
+    all : xs ≡ allFields (linesIn s (headingAt s .lines))
+
+  unpacked-is : (xs : List ℕ) → unpacked s ≡ gives xs → Unpacked xs
+  unfolding unpacked
+  unpacked-is xs e = by (isStatement s) refl e
+    where
+      by : (t : Bool) → isStatement s ≡ t → cond t (gives (allFields (linesIn s (headingAt s .lines)))) (refuses 14 0) ≡ gives xs → Unpacked xs
+      by true t d = record { holds = t; all = cc }
+      by false t d = absurd (let z : _≡_ {A = ℕ} 0 1 = cc in omega arith)
+
+  module _ (q : isStatement s ≡ true) where
+    counted : headingAnswer (headingRead s) .lines ≡ headingAt s .lines
+    unfolding headingRead headingAnswer
+    counted =
+        let e : headingRead s ≡ heading.Heading (headingAt s) = rw q refl in
+        ap (λ (h : HeadingRead). headingAnswer h .lines) e
+
+    line-there : (i : ℕ) → i < headingAt s .lines → lineRead s i ≡ line.Line (lineAt s i)
+    unfolding lineRead
+    line-there i h = rw (q, lt-leb (headingAt s .lines) i h) refl
+
+  lines-are-the-line-calls : (l : List ℕ) (r : WrittenAnswer) (x : List ℕ) → Given (unpacked s) l r x → LinesAreTheLineCalls s r x
+  lines-are-the-line-calls l r x g =
+      let xs = g .bytes in
+      let u = unpacked-is xs (g .is) in
+      let n = headingAt s .lines in
+      let c = counted (u .holds) in
+      record {
+        count =
+            ap (λ (w : WrittenAnswer). w .length) (g .gives-them .answer) ∙ ap length (u .all) ∙ laid-length fields-pieces s 40 fields-length n
+            ∙ ap (λ (k : ℕ). k * 40) (sym c);
+        lines = λ i h.
+            let less : i < n = rw c at h in
+            ap (λ (l : List ℕ). fieldsAt l i) (front-is xs l r x (g .gives-them) ∙ u .all)
+            ∙ fields-are (allFields (linesIn s n)) i (lineAt s i) (every-line-stands s bytes n i less)
+            ∙ ap entryAnswer (sym (line-there (u .holds) i less));
+      }
+
 -- ---- the demand
 
 pub every-line-and-pool-is-the-guides : EveryLineIsTheGuides
@@ -172,4 +228,6 @@ every-line-and-pool-is-the-guides =
       rewrite = λ s bytes l r x c z.
           let g = given onRewriting (rewritten s) l r x never (every-input-is-answered .rewrite s l r x c) z in
           rw (rewritten-is s bytes (g .bytes) (g .is)) at (g .gives-them);
+      lines = λ s bytes l r x c z.
+          lines-are-the-line-calls s bytes l r x (given onRewriting (unpacked s) l r x never (every-input-is-answered .lines s l r x c) z);
     }

@@ -6,10 +6,11 @@ use mathlib.Core.List.{List, [], _∷_, _++_}
 use native.Mathlib.Omega.{arith}
 use borrow.Author.Tests.{leb-true, leb-false, ltb-true, ltb-false}
 use lib.Dec.{leb, ltb}
-use lib.ListN.{length, length-append}
+use lib.ListN.{length}
 use Rattle.statement.specs.declared.Line.{Line}
 use Rattle.reading.specs.Reading.{lineAt, linesIn}
 use Rattle.reading.specs.declared.LineRead.the-variants as line
+use Rattle.reading.proofs.Laid.{lines-count}
 use Rattle.demands.specs.Demand2.{numbered}
 
 -- past the end
@@ -32,25 +33,20 @@ just-behind [] l = refl
 just-behind (x ∷ xs) l = just-behind xs l
 
 module _ (s : List ℕ) where
-  count : (n : ℕ) → length (linesIn s n) ≡ n
-  unfolding linesIn
-  count zero = refl
-  count (suc n) = length-append (linesIn s n) (lineAt s n ∷ []) ∙ omega (arith, count n)
-
   there : (n i : ℕ) → i < n → numbered (linesIn s n) i ≡ line.Line (lineAt s i)
   unfolding linesIn
   there zero i h = absurd (omega arith)
   there (suc n) i h = by (ltb i n) refl (there n i)
     where
       by : (t : Bool) → ltb i n ≡ t → (i < n → numbered (linesIn s n) i ≡ line.Line (lineAt s i)) → numbered (linesIn s n ++ (lineAt s n ∷ [])) i ≡ line.Line (lineAt s i)
-      by true t earlier = in-front (linesIn s n) (lineAt s n ∷ []) i (omega (arith, count n, ltb-true i n t)) ∙ earlier (ltb-true i n t)
+      by true t earlier = in-front (linesIn s n) (lineAt s n ∷ []) i (omega (arith, lines-count s n, ltb-true i n t)) ∙ earlier (ltb-true i n t)
       by false t earlier =
           let same : i ≡ n = omega (arith, ltb-false i n t) in
-          rw same (ap (numbered (linesIn s n ++ (lineAt s n ∷ []))) (sym (count n)) ∙ just-behind (linesIn s n) (lineAt s n))
+          rw same (ap (numbered (linesIn s n ++ (lineAt s n ∷ []))) (sym (lines-count s n)) ∙ just-behind (linesIn s n) (lineAt s n))
 
   pub line-numbered : (n i : ℕ) → cond (leb n i) (line.Refused 15 0) (line.Line (lineAt s i)) ≡ numbered (linesIn s n) i
   line-numbered n i = by (leb n i) refl
     where
       by : (t : Bool) → leb n i ≡ t → cond t (line.Refused 15 0) (line.Line (lineAt s i)) ≡ numbered (linesIn s n) i
-      by true t = sym (past-end (linesIn s n) i (omega (arith, count n, leb-true n i t)))
+      by true t = sym (past-end (linesIn s n) i (omega (arith, lines-count s n, leb-true n i t)))
       by false t = sym (there n i (leb-false n i t))

@@ -18,7 +18,7 @@ use Rattle.parties.specs.Once.{has}
 use Rattle.statement.specs.Lent.{Outcome, refuses, gives}
 use Rattle.lines.specs.Limit.{anyOver}
 use Rattle.reading.specs.Reading.{isStatement}
-use Rattle.rewriting.specs.Rewriting.{rewritten}
+use Rattle.reading.specs.Calls.{ifStatement}
 use Rattle.settlement.specs.Settle.{linesOf, settled, outcomeIf, outcome}
 use Rattle.demands.specs.Demand1.{onABook, onAStatement, onRewriting, OneOf}
 
@@ -131,10 +131,10 @@ outcome-numbers b account =
     (within-cond onAStatement (anyOver (linesOf (publicOf (bookOf b)) (rowsOfAccount (bookOf b) account))) 12 _ refl (within-gives onAStatement _)))
 
 -- 14
-pub rewritten-numbers : (s : List ℕ) → Within onRewriting (rewritten s)
-unfolding rewritten has
-rewritten-numbers s = by (isStatement s) _
+pub statement-numbers : (s xs : List ℕ) → Within onRewriting (ifStatement s xs)
+unfolding has
+statement-numbers s xs = by (isStatement s)
   where
-    by : (t : Bool) (xs : List ℕ) → Within onRewriting (cond t (gives xs) (refuses 14 0))
-    by true xs = within-gives onRewriting xs
-    by false xs = within-one onRewriting 14 0 refl
+    by : (t : Bool) → Within onRewriting (cond t (gives xs) (refuses 14 0))
+    by true = within-gives onRewriting xs
+    by false = within-one onRewriting 14 0 refl

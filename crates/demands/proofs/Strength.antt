@@ -1,5 +1,5 @@
 -- What the demands come to, said once more and without their definitions, so that a demand that says less is refused here. Assumes nothing.
-use Prim.Native.Nat.{ℕ, _+_, _*_, _≤_}
+use Prim.Native.Nat.{ℕ, _+_, _*_, _≤_, _<_}
 use mathlib.Core.Path.{_≡_, refl, ap}
 use mathlib.Core.Bool.{Bool, true, false, _||_}
 use mathlib.Core.List.{List, [], _∷_}
@@ -7,15 +7,18 @@ use native.Mathlib.Omega.{arith}
 use borrow.Author.Tests.{eqb-true}
 use lib.Dec.{eqb}
 use lib.IntN.{ℤ, natAbs, _+ℤ_}
+use Rattle.ground.specs.Bytes.{i64At}
 use Rattle.ground.specs.Inner.Each.{Each}
 use Rattle.parties.specs.Once.{has}
 use Rattle.statement.specs.Lent.{Outcome}
+use Rattle.reading.specs.Calls.{headingRead, lineRead}
 use Rattle.settlement.specs.Settle.{outcome}
-use Rattle.fervolatro.specs.Answers.{Called}
+use Rattle.fervolatro.specs.Answers.{headingAnswer, entryAnswer, Called}
 use Rattle.fervolatro.specs.declared.WrittenAnswer.{WrittenAnswer}
+use Rattle.fervolatro.specs.declared.EntryAnswer.{EntryAnswer}
 use Rattle.fervolatro.specs.declared.PoolAnswer.{PoolAnswer}
 use Rattle.demands.specs.Demand1.{onABook, OneOf, Answered, written, short, refused}
-use Rattle.demands.specs.Demand2.{PoolCloses}
+use Rattle.demands.specs.Demand2.{front, LinesAreTheLineCalls, PoolCloses}
 use Rattle.demands.proofs.Demand3.{no-neighbours-figure}
 use Rattle.demands.proofs.Example.{bookA, bookB, two-books-agree}
 
@@ -80,6 +83,10 @@ refused-and-left numbers o l r x (refused number place e h g) z = g .bytes
 -- so many half units and no more
 pub within-half-units : (b : List ℕ) (number : ℕ) (r : PoolAnswer) (c : PoolCloses b number r) → 2 * natAbs (r .amount +ℤ r .sum) ≤ r .lines + c .pool .stages
 within-half-units b number r c = c .closes
+
+-- every amount that is handed out is the one that the line call answers
+pub each-amount : (s : List ℕ) (r : WrittenAnswer) (x : List ℕ) → LinesAreTheLineCalls s r x → (i : ℕ) → i < headingAnswer (headingRead s) .lines → i64At (front r x) (i * 40 + 32) ≡ entryAnswer (lineRead s i) .amount
+each-amount s r x c i h = ap (λ (e : EntryAnswer). e .amount) (c .lines i h)
 
 -- ---- demand 3
 

@@ -15,6 +15,7 @@ use Rattle.parties.specs.Once.{has}
 use Rattle.statement.specs.Lent.{Outcome, refuses, gives}
 use Rattle.reading.specs.Calls.{headingRead, lineRead}
 use Rattle.rewriting.specs.Rewriting.{rewritten}
+use Rattle.unpacking.specs.Unpacking.{unpacked}
 use Rattle.settlement.specs.Settle.{outcome}
 use Rattle.balance.specs.Balance.{balanceOf}
 use Rattle.fervolatro.specs.Answers.{verdictAnswer, headingAnswer, entryAnswer, poolAnswer, Called}
@@ -37,7 +38,7 @@ onAStatement = 11 ∷ 12 ∷ 13 ∷ onABook
 abbrev pub onABalance : List ℕ
 onABalance = 15 ∷ onABook
 
--- a statement that is written again: "14 is looked for first, then 13"
+-- a statement that is written again, and one whose lines are handed out: "14 is looked for first, then 13"
 abbrev pub onRewriting : List ℕ
 onRewriting = 13 ∷ 14 ∷ []
 
@@ -102,6 +103,10 @@ StatementCall b account l r x = Called (outcome b account) l r x
 abbrev pub RewriteCall : List ℕ → List ℕ → WrittenAnswer → List ℕ → Type 0
 RewriteCall s l r x = Called (rewritten s) l r x
 
+-- the call that hands out all lines of the bytes s, likewise
+abbrev pub LinesCall : List ℕ → List ℕ → WrittenAnswer → List ℕ → Type 0
+LinesCall s l r x = Called (unpacked s) l r x
+
 -- ---- the demand, of what each call of the library promises, for every input
 
 pub record EveryInputIsAnswered : Type 0 where
@@ -112,3 +117,4 @@ pub record EveryInputIsAnswered : Type 0 where
   pub header : (s : List ℕ) (r : HeadingAnswer) → r ≡ headingAnswer (headingRead s) → HeadingAnswered r
   pub line : (s : List ℕ) (index : ℕ) (r : EntryAnswer) → r ≡ entryAnswer (lineRead s index) → EntryAnswered r
   pub rewrite : (s l : List ℕ) (r : WrittenAnswer) (x : List ℕ) → RewriteCall s l r x → Answered onRewriting (rewritten s) l r x
+  pub lines : (s l : List ℕ) (r : WrittenAnswer) (x : List ℕ) → LinesCall s l r x → Answered onRewriting (unpacked s) l r x

@@ -6,7 +6,7 @@ use mathlib.Core.Bool.{cond, not}
 use mathlib.Core.List.{List, [], _∷_}
 use lib.IntN.{ℤ, pos, natAbs, _+ℤ_}
 use lib.ListN.{length}
-use Rattle.ground.specs.Bytes.{AreBytes, part}
+use Rattle.ground.specs.Bytes.{AreBytes, part, u64At, i64At}
 use Rattle.book.specs.Header.{headerOf}
 use Rattle.book.specs.Book.{bookOf}
 use Rattle.book.specs.Table.{verdict}
@@ -29,8 +29,9 @@ use Rattle.guide.specs.Checks.{RangesAgree, FactorSums, EntrySums}
 use Rattle.fervolatro.specs.Answers.{verdictAnswer, headingAnswer, entryAnswer, poolAnswer}
 use Rattle.fervolatro.specs.declared.VerdictAnswer.{VerdictAnswer}
 use Rattle.fervolatro.specs.declared.WrittenAnswer.{WrittenAnswer}
+use Rattle.fervolatro.specs.declared.EntryAnswer.{EntryAnswer}
 use Rattle.fervolatro.specs.declared.PoolAnswer.{PoolAnswer}
-use Rattle.demands.specs.Demand1.{Gives, StatementCall, RewriteCall}
+use Rattle.demands.specs.Demand1.{Gives, StatementCall, RewriteCall, LinesCall}
 
 -- ---- the statement
 
@@ -58,6 +59,26 @@ pub record StatementIsTheGuides (b : List ℕ) (account : ℕ) (l : List ℕ) (r
   -- "a statement written and read gives the same lines": what the header call and the line call then answer of it
   pub heading : headingAnswer (headingRead (front r x)) ≡ headingAnswer (heading.Heading (guideHeading b account))
   pub lines : (index : ℕ) → entryAnswer (lineRead (front r x) index) ≡ entryAnswer (numbered (guideLines b account) index)
+
+-- ---- all lines of a statement at once
+
+-- place i of an array of fervolatro_fields that stands in xs, as the line call would answer it: five numbers of 64 bits, the last with a sign
+abbrev pub fieldsAt : List ℕ → ℕ → EntryAnswer
+fieldsAt xs i =
+    record {
+      refusal = 0;
+      place = 0;
+      id = u64At xs (i * 40);
+      part = u64At xs (i * 40 + 8);
+      regions = u64At xs (i * 40 + 16);
+      unit = u64At xs (i * 40 + 24);
+      amount = i64At xs (i * 40 + 32);
+    }
+
+-- "a statement written and read gives the same lines", all at once as one by one: as many as the header call says, each what the line call answers
+pub record LinesAreTheLineCalls (s : List ℕ) (r : WrittenAnswer) (x : List ℕ) : Type 0 where
+  pub count : r .length ≡ headingAnswer (headingRead s) .lines * 40
+  pub lines : (index : ℕ) → index < headingAnswer (headingRead s) .lines → fieldsAt (front r x) index ≡ entryAnswer (lineRead s index)
 
 -- ---- the balance
 
@@ -100,3 +121,5 @@ pub record EveryLineIsTheGuides : Type 0 where
       → PoolCloses b number r
   -- "read and written, the same bytes"
   pub rewrite : (s : List ℕ) → AreBytes s → (l : List ℕ) (r : WrittenAnswer) (x : List ℕ) → RewriteCall s l r x → r .refusal ≡ 0 → Gives s l r x
+  pub lines : (s : List ℕ) → AreBytes s → (l : List ℕ) (r : WrittenAnswer) (x : List ℕ) → LinesCall s l r x → r .refusal ≡ 0
+      → LinesAreTheLineCalls s r x

@@ -2,9 +2,10 @@
 // definition: nothing lies between a demand and the edge, and a call that loses its promise is refused here. Nobody calls these functions.
 ghost use mathlib.Core.Path.{_≡_};
 ghost use Rattle.rewriting.specs.Rewriting.{rewritten};
+ghost use Rattle.unpacking.specs.Unpacking.{unpacked};
 ghost use Rattle.settlement.specs.Settle.{outcome};
 ghost use Rattle.demands.specs.Demand1.{CheckAnswered, PoolAnswered, HeadingAnswered, EntryAnswered, Gives, Answered, onAStatement, onRewriting};
-ghost use Rattle.demands.specs.Demand2.{NumbersAreTheGuides, StatementIsTheGuides, PoolCloses};
+ghost use Rattle.demands.specs.Demand2.{NumbersAreTheGuides, StatementIsTheGuides, LinesAreTheLineCalls, PoolCloses};
 ghost use Rattle.demands.specs.Demand3.{Agree, Same};
 use fervolatro::EntryAnswer;
 use fervolatro::HeadingAnswer;
@@ -50,6 +51,13 @@ pub fn rewrite(bytes: &[u8], buffer: &mut [u8]) -> WrittenAnswer
     ensures { λ r. ⌜ (r .refusal ≡ 0 → Gives (now (bytes .entry)) (now (buffer .entry)) r (now (buffer .exit))) ⌝ }
 {
     fervolatro::fervolatro_rewrite(bytes, buffer)
+}
+
+pub fn lines(bytes: &[u8], buffer: &mut [u8]) -> WrittenAnswer
+    ensures { λ r. ⌜ Answered onRewriting (unpacked (now (bytes .entry))) (now (buffer .entry)) r (now (buffer .exit)) ⌝ }
+    ensures { λ r. ⌜ (r .refusal ≡ 0 → LinesAreTheLineCalls (now (bytes .entry)) r (now (buffer .exit))) ⌝ }
+{
+    fervolatro::fervolatro_lines(bytes, buffer)
 }
 
 // What two calls answer.

@@ -3,6 +3,7 @@ ghost use mathlib.Core.Path.{_≡_};
 ghost use Rattle.book.specs.Table.{verdict};
 ghost use Rattle.reading.specs.Calls.{headingRead, lineRead};
 ghost use Rattle.rewriting.specs.Rewriting.{rewritten};
+ghost use Rattle.unpacking.specs.Unpacking.{unpacked};
 ghost use Rattle.settlement.specs.Settle.{outcome};
 ghost use Rattle.balance.specs.Balance.{balanceOf};
 ghost use Rattle.fervolatro.specs.Answers.{verdictAnswer, writtenAnswer, headingAnswer, entryAnswer, poolAnswer, Called};
@@ -42,7 +43,7 @@ pub extern "C" fn fervolatro_check(book: &[u8]) -> VerdictAnswer
     answer(book::check(book))
 }
 
-// `fervolatro_written`: refusal 0 is success, and then length is the statement's.
+// `fervolatro_written`: refusal 0 is success, and then length is how many bytes were written.
 #[repr(C)]
 pub struct WrittenAnswer {
     pub refusal: u64,
@@ -167,6 +168,14 @@ pub extern "C" fn fervolatro_line(bytes: &[u8], index: u64) -> EntryAnswer
     ensures { λ r. ⌜ r ≡ entryAnswer (lineRead (now (bytes .entry)) index) ⌝ }
 {
     entry(reading::line(bytes, index))
+}
+
+// All lines of a statement, handed out as numbers at the front of the buffer (`fervolatro_fields` each), or the refusal that leaves every byte of it.
+#[no_mangle]
+pub extern "C" fn fervolatro_lines(bytes: &[u8], buffer: &mut [u8]) -> WrittenAnswer
+    ensures { λ r. ⌜ Called (unpacked (now (bytes .entry))) (now (buffer .entry)) r (now (buffer .exit)) ⌝ }
+{
+    written(unpacking::unpack(bytes, buffer))
 }
 
 // A statement that was read, written again at the front of the buffer, or the refusal that leaves every byte of it.

@@ -8,12 +8,16 @@ use lib.ListN.{length}
 use native.Mathlib.Omega.{arith}
 use borrow.Author.Tests.{le-leb, lt-leb, leb-true, not-true, not-false}
 use Rattle.ground.specs.Inner.Every.{Every}
+use Rattle.ground.specs.Put.{put}
 use Rattle.ground.proofs.Every.{every}
 use Rattle.sections.specs.Search.{all}
+use Rattle.statement.specs.Lent.{gives, Lent}
 use Rattle.statement.specs.declared.Heading.{Heading}
 use Rattle.statement.specs.declared.Line.{Line}
+use Rattle.statement.specs.declared.Written.the-variants as written
+use Rattle.statement.proofs.Lent.{lent-refused, lent-short, lent-written}
 use Rattle.reading.specs.Reading.{headingAt, lineAt, headed, lineHolds, isStatement}
-use Rattle.reading.specs.Calls.{headingRead, lineRead}
+use Rattle.reading.specs.Calls.{headingRead, lineRead, ifStatement}
 use Rattle.reading.specs.declared.HeadingRead.the-variants as heading
 use Rattle.reading.specs.declared.LineRead.the-variants as line
 use Rattle.reading.proofs.Whole.{headed-long}
@@ -69,3 +73,20 @@ module _ (s : List ℕ) {b : Bool} (e : b ≡ isStatement s) where
       pub line-given : (x : Line) → i < h .lines → x ≡ lineAt s i → line.Line x ≡ lineRead s i
       unfolding lineRead
       line-given x l q = rw (← e, not-false b t, ← g, lt-leb (h .lines) i l, ← q)
+
+-- a call that writes xs of a statement
+module _ (s xs : List ℕ) {b : Bool} (e : b ≡ isStatement s) where
+  -- 14
+  pub not-written : (l : List ℕ) → not b ≡ true → Lent (ifStatement s xs) l (written.Refused 14 0) l
+  not-written l t = lent-refused 14 0 (ifStatement s xs) l (rw (← e, not-true b t))
+
+  module _ (t : not b ≡ false) where
+    given : ifStatement s xs ≡ gives xs
+    given = rw (← e, not-false b t)
+
+    -- 13
+    pub no-room : (l : List ℕ) → length l < length xs → Lent (ifStatement s xs) l (written.Refused 13 0) l
+    no-room l h = lent-short (ifStatement s xs) xs given l h
+
+    pub all-written : (l : List ℕ) (n : ℕ) {a : List ℕ} → n ≡ length xs → length xs ≤ length l → a ≡ put l 0 xs → Lent (ifStatement s xs) l (written.Length n) a
+    all-written l n = lent-written (ifStatement s xs) xs given l n

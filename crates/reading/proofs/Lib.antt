@@ -1,5 +1,6 @@
 pub mod Read
 pub mod Whole
 pub mod Ends
+pub mod Laid
 pub mod Trip
 pub mod Written

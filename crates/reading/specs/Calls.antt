@@ -3,6 +3,7 @@ use Prim.Native.Nat.{ℕ}
 use mathlib.Core.List.{List}
 use mathlib.Core.Bool.{cond}
 use lib.Dec.{leb}
+use Rattle.statement.specs.Lent.{Outcome, refuses, gives}
 use Rattle.reading.specs.Reading.{headingAt, lineAt, isStatement}
 use Rattle.reading.specs.declared.HeadingRead.{HeadingRead}
 use Rattle.reading.specs.declared.HeadingRead.the-variants as heading
@@ -15,3 +16,7 @@ headingRead s = cond (isStatement s) (heading.Heading (headingAt s)) (heading.Re
 -- "Asking for one line, numbered from 0, looks for 14, then 15."
 unfoldable pub lineRead : List ℕ → ℕ → LineRead
 lineRead s i = cond (isStatement s) (cond (leb (headingAt s .lines) i) (line.Refused 15 0) (line.Line (lineAt s i))) (line.Refused 14 0)
+
+-- what a call that writes xs of a statement into a lent buffer gives: "14 is looked for first, then 13"
+abbrev pub ifStatement : List ℕ → List ℕ → Outcome
+ifStatement s xs = cond (isStatement s) (gives xs) (refuses 14 0)

@@ -125,18 +125,18 @@ fn line_holds(s: &[u8], i: usize) -> bool
     spare_clear(s, i) & line_ok(line_at(s, i))
 }
 
+// Every line is looked at, though one that fails decides: a loop that never ends early is faster.
 fn lines_hold(s: &[u8], n: usize) -> bool
     requires { ⌜ 24 + n * 24 ≤ length (now s) ⌝ }
     ensures { λ r. ⌜ r ≡ all (lineHolds (now (s .entry))) n ⌝ }
 {
+    let mut holds = true;
     let mut i = 0;
     while i < n {
-        if !line_holds(s, i) {
-            return false;
-        }
+        holds &= line_holds(s, i);
         i += 1;
     }
-    true
+    holds
 }
 
 fn is_headed(s: &[u8]) -> bool

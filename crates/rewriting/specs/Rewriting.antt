@@ -2,10 +2,10 @@
 -- 14 is looked for first, then 13."
 use Prim.Native.Nat.{ℕ}
 use mathlib.Core.List.{List}
-use mathlib.Core.Bool.{cond}
 use Rattle.statement.specs.Statement.{statementBytes}
-use Rattle.reading.specs.Reading.{headingAt, linesIn, isStatement}
-use Rattle.statement.specs.Lent.{Outcome, refuses, gives}
+use Rattle.statement.specs.Lent.{Outcome}
+use Rattle.reading.specs.Reading.{headingAt, linesIn}
+use Rattle.reading.specs.Calls.{ifStatement}
 
 unfoldable pub rewritten : List ℕ → Outcome
-rewritten s = cond (isStatement s) (gives (statementBytes (headingAt s) (linesIn s (headingAt s .lines)))) (refuses 14 0)
+rewritten s = ifStatement s (statementBytes (headingAt s) (linesIn s (headingAt s .lines)))

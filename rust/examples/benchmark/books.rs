@@ -1,6 +1,7 @@
 //! The books that are timed.
 
 use fervolatro::book::Book;
+use fervolatro::reference;
 use fervolatro::testing::accounts::share_units;
 use fervolatro::testing::generate::{accepted_book, book_of_longest_statement, Sizes};
 use fervolatro::testing::random::Random;
@@ -15,7 +16,7 @@ const MIDDLING: Sizes = Sizes {
     contracts: 4,
 };
 
-/// A book, and the account whose statement is asked for.
+/// A book, and the account whose statement is asked for; or that statement.
 pub struct Asked {
     pub name: String,
     pub bytes: Vec<u8>,
@@ -28,6 +29,16 @@ impl Asked {
             name: name.to_string(),
             bytes: book.encode(),
             account,
+        }
+    }
+
+    /// The account's statement, under the book's name.
+    pub fn statement(&self) -> Self {
+        let settled = reference::settle(&self.bytes, self.account);
+        Asked {
+            name: self.name.clone(),
+            bytes: settled.expect("the account is known").encode(),
+            account: self.account,
         }
     }
 }

@@ -15,6 +15,7 @@ use std::hint::black_box;
 
 use books::Asked;
 use fervolatro::book::Book;
+use fervolatro::fast::Fields;
 use fervolatro::reference::{Kind, Pool};
 use fervolatro::testing::generate::Sizes;
 use fervolatro::{fast, reference};
@@ -22,9 +23,11 @@ use timing::{side_by_side, Times};
 
 const POOLS_AT_A_TIME: usize = 4;
 
+const MOST_LINES: usize = 2_152;
+
 /// The longest statement, in bytes. Most callers lend so much; one that lends less has
 /// its lines counted first.
-const LONGEST: usize = 51_672;
+const LONGEST: usize = 24 + 24 * MOST_LINES;
 
 fn main() {
     let books = books::all();
@@ -36,9 +39,15 @@ fn main() {
         println!("{}", statement(asked, LONGEST).row("statement", asked));
     }
     for asked in &books {
-        let length = fast::statement(&asked.bytes, asked.account, &mut [0; LONGEST]);
-        let times = statement(asked, length.expect("the account is known"));
+        let times = statement(asked, asked.statement().bytes.len());
         println!("{}", times.row("statement, just room", asked));
+    }
+    for asked in &books {
+        let statement = asked.statement();
+        println!(
+            "{}",
+            all_lines(&statement).row("all lines read", &statement)
+        );
     }
     for asked in &books {
         balances(asked);
@@ -64,6 +73,26 @@ fn statement(asked: &Asked, room: usize) -> Times {
         || fast::statement(black_box(book), account, black_box(&mut ours)).is_ok(),
     );
     assert!(theirs == ours, "{}: they write differently", asked.name);
+    times
+}
+
+/// All lines of a statement, read into numbers. Each has room for the most there can
+/// be.
+fn all_lines(statement: &Asked) -> Times {
+    let bytes = &statement.bytes[..];
+    let mut theirs = vec![0; MOST_LINES * size_of::<Fields>()];
+    let mut ours = vec![Fields::default(); MOST_LINES];
+    let times = side_by_side(
+        || fervolatro::unpack(black_box(bytes), black_box(&mut theirs)).is_ok(),
+        || fast::lines(black_box(bytes), black_box(&mut ours)).is_ok(),
+    );
+    let numbers = theirs.as_chunks().0.iter().copied().map(u64::from_le_bytes);
+    let words = ours.iter().flat_map(Fields::words);
+    assert!(
+        numbers.eq(words),
+        "{}: they read differently",
+        statement.name
+    );
     times
 }
 

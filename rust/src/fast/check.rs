@@ -11,7 +11,7 @@ use crate::Refusal;
 
 const SHORTEST: usize = 84;
 const ENERGY_LIMIT: u32 = 20_000_000;
-const MONEY_LIMIT: u64 = 50_000_000_000;
+pub(super) const MONEY_LIMIT: u64 = 50_000_000_000;
 const WHOLE: u64 = 1_000_000;
 
 pub fn check(book: &[u8]) -> Result<(), Refusal> {
@@ -71,7 +71,7 @@ fn note(first: &mut usize, place: usize) {
     }
 }
 
-fn refuse_unless(holds: bool, number: u8, place: usize) -> Result<(), Refusal> {
+pub(super) fn refuse_unless(holds: bool, number: u8, place: usize) -> Result<(), Refusal> {
     if holds {
         Ok(())
     } else {
@@ -100,7 +100,7 @@ fn laid_out(book: &[u8]) -> Result<Sections<'_>, Refusal> {
 }
 
 /// From 2025 to 2099 every fourth year is a leap year.
-fn is_date(date: u32) -> bool {
+pub(super) fn is_date(date: u32) -> bool {
     let (year, month, day) = (date / 10_000, date / 100 % 100, date % 100);
     let days = match month {
         1 | 3 | 5 | 7 | 8 | 10 | 12 => 31,

@@ -7,9 +7,11 @@
 mod balance;
 mod check;
 mod layout;
+mod lines;
 mod shares;
 mod statement;
 
 pub use balance::balance;
 pub use check::check;
+pub use lines::{lines, Fields};
 pub use statement::statement;

@@ -13,7 +13,7 @@ pub use amounts::round;
 pub use balance::{balance, balances, pools, Balances, Kind, Pool};
 pub use check::check;
 pub use listing::{listed, listing};
-pub use reading::{header, line, read, rewrite};
+pub use reading::{header, line, lines, read, rewrite, unpack};
 pub use statement::{settle, statement};
 
 use crate::Refusal;

@@ -1,4 +1,5 @@
-//! Statements read back, and written again: refusals 13 to 15.
+//! Statements read back, line by line and all lines at once, and written again:
+//! refusals 13 to 15.
 
 use super::check::period_is_in_range;
 use super::refuse_unless;
@@ -30,6 +31,34 @@ pub fn line(bytes: &[u8], index: u64) -> Result<Entry, Refusal> {
     refuse_unless(15, index < u64::from(statement.header.lines))?;
     let index = usize::try_from(index).expect("it is below 2,152");
     Ok(statement.lines[index].entry())
+}
+
+/// Every line as [`line`] has it, in their order.
+pub fn lines(bytes: &[u8]) -> Result<Vec<Entry>, Refusal> {
+    Ok(read(bytes)?.lines.iter().map(Line::entry).collect())
+}
+
+/// The numbers of every line one behind the other, each in 64 bits, into a lent
+/// buffer: as for a statement that is written again, "14 is looked for first, then
+/// 13", and "later bytes stay".
+pub fn unpack(bytes: &[u8], buffer: &mut [u8]) -> Result<usize, Refusal> {
+    let lines = lines(bytes)?.into_iter();
+    let numbers: Vec<u8> = lines.flat_map(numbers_of).flatten().collect();
+    refuse_unless(13, buffer.len() >= numbers.len())?;
+    buffer[..numbers.len()].copy_from_slice(&numbers);
+    Ok(numbers.len())
+}
+
+/// "id u32; part u8; regions u8; ... unit u32; ... amount i64", "little-endian".
+fn numbers_of(entry: Entry) -> [[u8; 8]; 5] {
+    [
+        i64::from(entry.id),
+        i64::from(entry.part),
+        i64::from(entry.regions),
+        i64::from(entry.unit),
+        entry.amount,
+    ]
+    .map(i64::to_le_bytes)
 }
 
 /// "A read statement can be written again, header and lines in their order, into a

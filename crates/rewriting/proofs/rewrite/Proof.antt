@@ -1,7 +1,8 @@
 -- `rewriting::rewrite` meets its contract. Each end is a law of `Ends`. Assumes nothing.
 use native.Mathlib.Omega.{arith}
 use borrow.Author.Needs.{needs}
-use Rattle.rewriting.proofs.Ends.{end-14, end-13, header-lies, lines-lie, lines-fit, end-written}
+use Rattle.reading.proofs.Ends.{header-lies}
+use Rattle.rewriting.proofs.Ends.{end-14, end-13, lines-lie, lines-fit, end-written}
 use Rattle.rewriting.proofs.rewrite.Statement.{statement}
 use Rattle.rewriting.proofs.rewrite.Tie as tie
 

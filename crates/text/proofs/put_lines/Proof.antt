@@ -3,7 +3,8 @@ use Prim.Native.Nat.{_≤_, _-_}
 use native.Mathlib.Omega.{arith}
 use borrow.Author.Needs.{needs}
 use Rattle.ground.proofs.Put.{wrote-length}
-use Rattle.text.proofs.Turns.{Listed, listed-none, listed-room, listed-more, listed-all}
+use Rattle.reading.proofs.Laid.{laid-none, laid-more, laid-all}
+use Rattle.text.proofs.Turns.{Listed, text-pieces, listed-room}
 use Rattle.text.proofs.put_lines.Statement.{statement}
 use Rattle.text.proofs.put_lines.Tie as tie
 
@@ -14,7 +15,7 @@ abbrev μ-loop : tie.MeasureT-loop
 μ-loop text₀ k s n e₀ i₀ text e i = n - i
 
 loop-holds : tie.Need-loop-holds Inv-loop μ-loop
-loop-holds c = (search needs, listed-none _ _ _)
+loop-holds c = (search needs, laid-none text-pieces _ _ _)
 
 line-at-requires : tie.Need-line-at-requires Inv-loop μ-loop
 line-at-requires c κs = search needs
@@ -33,13 +34,14 @@ loop-less c = search needs
 loop-again : tie.Need-loop-again Inv-loop μ-loop
 loop-again c =
     let turn = c .before .before .before .before .before .before in
-    (search needs, listed-more _ _ _ _ (turn .loop .inv .1) _ (c .before .before .before .line-at .ensures) (c .before .before .put-line .ensures))
+    let line = c .before .before .put-line .ensures in
+    (search needs, laid-more text-pieces _ _ _ _ (turn .loop .inv .1) _ _ (c .before .before .before .line-at .ensures) (line .bytes) (line .next))
 
 same-length : tie.Need-same-length Inv-loop μ-loop
 same-length c = wrote-length (c .before .loop .inv .1)
 
 returns : tie.Need-returns Inv-loop μ-loop
-returns c = listed-all _ _ _ _ (c .before .loop .inv .1) _ (c .before .loop .inv .0) (search needs)
+returns c = laid-all text-pieces _ _ _ _ (c .before .loop .inv .1) _ (c .before .loop .inv .0) (search needs)
 
 pub put-lines-spec : {M : Type 1} → statement M
 put-lines-spec =
