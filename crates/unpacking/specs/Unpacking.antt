@@ -1,4 +1,5 @@
--- The lines of a statement handed out as numbers, all by one call: what a caller of C has as an array of fervolatro_fields. 14 is looked for first, then 13.
+-- The lines of a statement handed out as numbers, all by one call: what a caller of C has as an array of fervolatro_fields. 14 is looked for
+-- first, then 13.
 use Prim.Native.Nat.{ℕ}
 use mathlib.Core.List.{List, [], _∷_, _++_}
 use Rattle.ground.specs.Le.{le64, int64}
