@@ -141,6 +141,17 @@ pub fn unlike_the_definitions(repository: &Repository) -> Vec<String> {
     complaints.collect()
 }
 
+/// The numbers of a field's range that no rule has.
+fn outside_the_rules(repository: &Repository, row: &Row) -> Vec<String> {
+    let has =
+        |file: &&str, number: &str| has_number(&without_groups(repository.text(file)), number);
+    let range = numbers(row.cell("Range").unwrap_or(""));
+    let unknown = range.filter(|number| !RULES.iter().any(|file| has(file, number)));
+    unknown
+        .map(|number| format!("no rule has the {number} of its range"))
+        .collect()
+}
+
 fn why_unlike(repository: &Repository, record: &Record, rows: &[Row]) -> Vec<String> {
     let front = format!("{}, ", record.title);
     let fields = rows.iter().filter(|row| {
@@ -163,13 +174,7 @@ fn why_unlike(repository: &Repository, record: &Record, rows: &[Row]) -> Vec<Str
         if !record.is_read(definitions, offset, bytes) {
             why.push(format!("{} has no {bytes} bytes at {offset}", record.file));
         }
-        let range = numbers(row.cell("Range").unwrap_or(""));
-        let unknown = range.filter(|number| {
-            !RULES
-                .iter()
-                .any(|file| has_number(&without_groups(repository.text(file)), number))
-        });
-        why.extend(unknown.map(|number| format!("no rule has the {number} of its range")));
+        why.extend(outside_the_rules(repository, row));
         end = offset + bytes;
         size = row.under.strip_prefix(&front).map(str::to_owned);
     }
@@ -444,6 +449,14 @@ fn go_on(text: &mut String, more: &str) {
     text.push_str(more);
 }
 
+/// Whether the page's row says of a refusal what the header says.
+fn is_said(row: &Row, refusal: &Refusal) -> bool {
+    let said = row.cell("Given exactly when").unwrap_or("");
+    // The header call's table says "they are not" of the row before it.
+    let is_when = |said| said == refusal.when || refusal.when.starts_with("they ");
+    said.split("; ").any(is_when) && row.cell("Place") == Some(&refusal.place)
+}
+
 /// Refusals that the page and the header's tables do not have alike. Where the header has
 /// several wordings of one, the page has each, with a semicolon between them.
 pub fn other_refusals(repository: &Repository) -> Vec<String> {
@@ -456,18 +469,13 @@ pub fn other_refusals(repository: &Repository) -> Vec<String> {
     let theirs = refusals(repository.text(HEADER));
     let mut complaints = Vec::new();
     for refusal in &theirs {
-        let Refusal {
-            number,
-            when,
-            place,
-        } = refusal;
-        let row = ours.get(number.as_str());
-        let said = row.and_then(|row| row.cell("Given exactly when"));
-        let said = said.unwrap_or("");
-        // The header call's table says "they are not" of the row before it.
-        let is_said = said.split("; ").any(|said| said == when) || when.starts_with("they ");
-        let is_placed = row.and_then(|row| row.cell("Place")) == Some(place);
-        if !is_said || !is_placed {
+        let row = ours.get(refusal.number.as_str());
+        if !row.is_some_and(|row| is_said(row, refusal)) {
+            let Refusal {
+                number,
+                when,
+                place,
+            } = refusal;
             complaints.push(format!(
                 "refusal {number}: the header has {when:?}, {place:?}"
             ));
