@@ -2,6 +2,4 @@ pub mod Passed
 pub mod Read
 pub mod Room
 pub mod Steps
-pub mod Whole
 pub mod Promise
-pub mod NoneRefuses

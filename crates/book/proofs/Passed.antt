@@ -1,12 +1,38 @@
--- What acceptance says of each check of the records. Assumes nothing.
-use mathlib.Core.List.{List}
+-- What acceptance says of each check, and that the verdict is the table's ten in a row. Assumes nothing.
+use mathlib.Core.List.{List, [], _∷_, _++_}
 use Prim.Native.Nat.{ℕ}
-use mathlib.Core.Path.{_≡_}
-use Rattle.sections.specs.Refusal.{firstOf}
-use Rattle.sections.specs.declared.Verdict.the-variants.{Accepted}
-use Rattle.sections.proofs.Refusal.{first-held}
+use mathlib.Core.Path.{_≡_, refl, sym, _∙_}
+use Rattle.sections.specs.Refusal.{earlier, firstOf}
+use Rattle.sections.specs.declared.Verdict.{Verdict}
+use Rattle.sections.specs.declared.Verdict.the-variants.{Accepted, Refused}
+use Rattle.sections.proofs.Refusal.{first-held, earlier-last}
 use Rattle.book.specs.Book.{Book, bookOf}
-use Rattle.book.specs.Table.{verdict, check5, check6, check7, check8, check9, check10, recordChecks}
+use Rattle.book.specs.Table.{check1, check2, check3, check4, check5, check6, check7, check8, check9, check10, recordChecks, soundness, verdict}
+
+-- ---- the ten in a row
+
+earlier-moved : (a b c : Verdict) → earlier (earlier a b) c ≡ earlier a (earlier b c)
+unfolding earlier
+earlier-moved Accepted b c = refl
+earlier-moved (Refused n k) b c = refl
+
+-- the first refusal of a row comes first of what follows it too
+first-joined : (xs ys : List Verdict) → firstOf (firstOf xs ∷ ys) ≡ firstOf (xs ++ ys)
+unfolding firstOf earlier
+first-joined [] ys = refl
+first-joined (x ∷ xs) ys = rw (earlier-moved x (firstOf xs) (firstOf ys), first-joined xs ys)
+
+pub ten-in-a-row : (b : List ℕ) → verdict b ≡ firstOf (check1 b ∷ check2 b ∷ check3 b ∷ check4 b ∷ check5 (bookOf b) ∷ check6 (bookOf b) ∷ check7 (bookOf b) ∷ check8 (bookOf b) ∷ check9 (bookOf b) ∷ check10 (bookOf b) ∷ [])
+unfolding verdict soundness
+ten-in-a-row b = first-joined (check1 b ∷ check2 b ∷ check3 b ∷ check4 b ∷ recordChecks (bookOf b)) (check10 (bookOf b) ∷ [])
+
+-- ---- the last of a row; v is what the check answered
+
+pub verdict-only : {v p : Verdict} → v ≡ p → v ≡ firstOf (p ∷ [])
+unfolding firstOf
+verdict-only {p = p} e = e ∙ sym (earlier-last p)
+
+-- ---- 5 to 9
 
 pub record NoneRefused (B : Book) : Type 0 where
   pub fields : check5 B ≡ Accepted
@@ -14,7 +40,6 @@ pub record NoneRefused (B : Book) : Type 0 where
   pub names : check7 B ≡ Accepted
   pub factors : check8 B ≡ Accepted
   pub sums : check9 B ≡ Accepted
-  pub divisors : check10 B ≡ Accepted
 
 pub none-refused : (B : Book) → firstOf (recordChecks B) ≡ Accepted → NoneRefused B
 none-refused B e =
@@ -23,15 +48,35 @@ none-refused B e =
     let c7 = first-held (check7 B) _ (c6 .rest) in
     let c8 = first-held (check8 B) _ (c7 .rest) in
     let c9 = first-held (check9 B) _ (c8 .rest) in
-    let c10 = first-held (check10 B) _ (c9 .rest) in
-    record { fields = c5 .here; order = c6 .here; names = c7 .here; factors = c8 .here; sums = c9 .here; divisors = c10 .here }
+    record { fields = c5 .here; order = c6 .here; names = c7 .here; factors = c8 .here; sums = c9 .here }
 
--- 1 to 4 come before
-pub records-passed : (b : List ℕ) → verdict b ≡ Accepted → NoneRefused (bookOf b)
-unfolding verdict
-records-passed b e =
+-- ---- 1 to 9
+
+pub record SoundPassed (b : List ℕ) : Type 0 where
+  pub range : check3 b ≡ Accepted
+  pub length : check4 b ≡ Accepted
+  pub records : NoneRefused (bookOf b)
+
+pub sound-passed : (b : List ℕ) → soundness b ≡ Accepted → SoundPassed b
+unfolding soundness
+sound-passed b e =
     let c1 = first-held _ _ e in
     let c2 = first-held _ _ (c1 .rest) in
     let c3 = first-held _ _ (c2 .rest) in
     let c4 = first-held _ _ (c3 .rest) in
-    none-refused (bookOf b) (c4 .rest)
+    record { range = c3 .here; length = c4 .here; records = none-refused (bookOf b) (c4 .rest) }
+
+-- ---- all ten
+
+pub record AllPassed (b : List ℕ) : Type 0 where
+  pub sound : soundness b ≡ Accepted
+  pub divisors : check10 (bookOf b) ≡ Accepted
+
+pub all-passed : (b : List ℕ) → verdict b ≡ Accepted → AllPassed b
+unfolding verdict
+all-passed b e =
+    let s = first-held (soundness b) _ e in
+    record { sound = s .here; divisors = first-held (check10 (bookOf b)) _ (s .rest) .here }
+
+pub records-passed : (b : List ℕ) → verdict b ≡ Accepted → NoneRefused (bookOf b)
+records-passed b e = sound-passed b (all-passed b e .sound) .records

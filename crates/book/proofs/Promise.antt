@@ -1,4 +1,4 @@
--- An accepted book keeps its promises: each check that refuses nothing says what it says of every record. Assumes nothing.
+-- A sound book and an accepted one keep their promises: each check that refuses nothing says what it says of every record. Assumes nothing.
 use Prim.Native.Nat.{ℕ, _+_, _≤_, _<_}
 use mathlib.Core.List.{List}
 use mathlib.Core.Path.{_≡_, refl}
@@ -7,23 +7,20 @@ use borrow.Author.Tests.{eqb-true}
 use lib.Dec.{eqb}
 use native.Mathlib.Omega.{arith}
 use Rattle.ground.proofs.Every.{every}
-use Rattle.sections.specs.Refusal.{firstOf}
 use Rattle.sections.specs.Total.{totalOf, keyed}
 use Rattle.sections.specs.declared.Verdict.the-variants.{Accepted}
 use Rattle.sections.proofs.Refusal.{first-held, record-held, unless-held}
 use Rattle.sections.proofs.Total.{total-under}
 use Rattle.records.specs.declared.rows.EnergyRow.{EnergyRow}
 use Rattle.factors.proofs.Said.{owner-of, whole-of, plain-of}
-use Rattle.totals.specs.Sums.{regionOf, aceOf, asoeOf, teOf}
-use Rattle.totals.specs.Inner.Facts.{SumsTo}
+use Rattle.totals.specs.Sums.{regionOf}
 use Rattle.totals.proofs.Said.{entry-of, divisor-of, funded-of}
 use Rattle.book.specs.Header.{rangeTests, inRange}
 use Rattle.book.specs.Book.{Book, bookOf}
-use Rattle.book.specs.Table.{check3, check4, check7, check8, check9, check10, recordChecks, verdict}
-use Rattle.book.specs.Inner.Accepted.{ownTotal, AtMostEntry, Promise, AcceptedBook}
-use Rattle.book.proofs.Passed.{none-refused}
-use Rattle.book.proofs.Whole.{few-of}
-use Rattle.book.proofs.Steps.{fields-of, ordered-of}
+use Rattle.book.specs.Table.{check3, check4, check7, check8, check9, check10, soundness, verdict}
+use Rattle.book.specs.Inner.Accepted.{ownTotal, EntrySumsAt, OwnAtMost, Sound, SoundBook, Promise, AcceptedBook}
+use Rattle.book.proofs.Passed.{NoneRefused, sound-passed, all-passed}
+use Rattle.book.proofs.Steps.{few-of, fields-of, ordered-of, named-of}
 
 -- ---- an account's own energy
 
@@ -41,7 +38,7 @@ unfolding ownTotal keyed
 own-within B account g f =
     total-under _ _ (B .header .energies) (λ i l. own-part (eqb (B .energy i .account) account) (eqb (B .energy i .region) g) (f (B .energy i)))
 
-own-of : (B : Book) → ((g : ℕ) → g < 5 → SumsTo (B .entry g) (totalOf (regionOf (B .energy)) g (aceOf (B .energy)) (B .header .energies)) (totalOf (regionOf (B .energy)) g (asoeOf (B .energy)) (B .header .energies)) (totalOf (regionOf (B .energy)) g (teOf (B .energy)) (B .header .energies))) → (account g : ℕ) → g < 5 → AtMostEntry (B .entry g) (ownTotal B account g (λ r. r .ace)) (ownTotal B account g (λ r. r .asoe)) (ownTotal B account g (λ r. r .race + r .rasoe))
+own-of : (B : Book) → ((g : ℕ) → g < 5 → EntrySumsAt B g) → (account g : ℕ) → g < 5 → OwnAtMost B account g
 own-of B s account g l =
     record {
       ace = rw (s g l .ace) (own-within B account g (λ r. r .ace));
@@ -49,14 +46,11 @@ own-of B s account g l =
       residual = rw (s g l .residual) (own-within B account g (λ r. r .race + r .rasoe));
     }
 
--- ---- all of it
+-- ---- 1 to 9
 
-from-records : (B : Book) → inRange (B .header) ≡ true → firstOf (recordChecks B) ≡ Accepted → Promise B
-unfolding check7 check8 check9 check10
-from-records B i e =
-    let c = none-refused B e in
-    let shared = first-held _ _ (c .divisors) in
-    let paid = first-held _ _ (shared .rest) in
+sound-records : (B : Book) → inRange (B .header) ≡ true → NoneRefused B → Sound B
+unfolding check7 check8 check9
+sound-records B i c =
     let sums = entry-of (B .energy) (B .header .energies) (B .entry) (record-held _ _ _ _ (c .sums)) in
     record {
       few = few-of (B .header) i;
@@ -64,22 +58,37 @@ from-records B i e =
       fields = fields-of B (c .fields) refl;
       ordered = ordered-of B (c .order) refl;
       owner = owner-of (B .constraint) (B .header .constraints) (B .unit) (B .header .units) (record-held _ _ _ _ (c .names));
+      named = named-of B (c .names) refl;
       factored = whole-of (B .unit) (B .header .units) (B .constraint) (B .header .constraints) (record-held _ _ _ _ (c .factors));
       default = plain-of (B .unit) (B .header .units) (B .constraint) (B .header .constraints) (record-held _ _ _ _ (c .factors));
       entry = sums;
-      divisor = divisor-of (B .entry) (B .constraint) (B .header .constraints) (record-held _ _ _ _ (shared .here));
-      funded = funded-of (B .entry) (B .contract) (B .header .contracts) (record-held _ _ _ _ (paid .here));
       own = own-of B sums;
     }
 
-pub accepted : (b : List ℕ) → verdict b ≡ Accepted → AcceptedBook b
-unfolding verdict check3 check4
-accepted b e =
-    let c1 = first-held _ _ e in
-    let c2 = first-held _ _ (c1 .rest) in
-    let c3 = first-held _ _ (c2 .rest) in
-    let c4 = first-held _ _ (c3 .rest) in
+pub sound : (b : List ℕ) → soundness b ≡ Accepted → SoundBook b
+unfolding check3 check4
+sound b e =
+    let c = sound-passed b e in
     record {
-      long = eqb-true _ _ (unless-held 4 _ (c4 .here));
-      promise = from-records (bookOf b) (unless-held 3 _ (c3 .here)) (c4 .rest);
+      long = eqb-true _ _ (unless-held 4 _ (c .length));
+      sound = sound-records (bookOf b) (unless-held 3 _ (c .range)) (c .records);
     }
+
+-- ---- and 10
+
+promised : (B : Book) → Sound B → check10 B ≡ Accepted → Promise B
+unfolding check10
+promised B s e =
+    let shared = first-held _ _ e in
+    let paid = first-held _ _ (shared .rest) in
+    record {
+      sound = s;
+      divisor = divisor-of (B .entry) (B .constraint) (B .header .constraints) (record-held _ _ _ _ (shared .here));
+      funded = funded-of (B .entry) (B .contract) (B .header .contracts) (record-held _ _ _ _ (paid .here));
+    }
+
+pub accepted : (b : List ℕ) → verdict b ≡ Accepted → AcceptedBook b
+accepted b e =
+    let c = all-passed b e in
+    let s = sound b (c .sound) in
+    record { long = s .long; promise = promised (bookOf b) (s .sound) (c .divisors) }

@@ -76,10 +76,14 @@ check10 B =
     ∷ refuse 10 (contractsFrom (B .header)) 36 (contractDivides (B .entry) (B .contract)) (B .header .contracts)
     ∷ [])
 
--- the checks of the records, in order
+-- 5 to 9, the checks of the records, in order
 abbrev pub recordChecks : Book → List Verdict
-recordChecks B = check5 B ∷ check6 B ∷ check7 B ∷ check8 B ∷ check9 B ∷ check10 B ∷ []
+recordChecks B = check5 B ∷ check6 B ∷ check7 B ∷ check8 B ∷ check9 B ∷ []
+
+-- 1 to 9: whether the bytes are a sound book, one that stands as it should and whose figures agree; the first that refuses decides
+unfoldable pub soundness : List ℕ → Verdict
+soundness b = firstOf (check1 b ∷ check2 b ∷ check3 b ∷ check4 b ∷ recordChecks (bookOf b))
 
 -- all ten: the first that refuses decides
 unfoldable pub verdict : List ℕ → Verdict
-verdict b = firstOf (check1 b ∷ check2 b ∷ check3 b ∷ check4 b ∷ recordChecks (bookOf b))
+verdict b = firstOf (soundness b ∷ check10 (bookOf b) ∷ [])

@@ -16,7 +16,7 @@ pub struct Header {
 }
 
 // The mark, the version and the reserved bytes.
-pub(crate) fn is_marked(book: &[u8]) -> bool
+pub fn is_marked(book: &[u8]) -> bool
     requires { ⌜ 84 ≤ length (now book) ⌝ }
     ensures { λ r. ⌜ r ≡ bookMarked (now (book .entry)) ⌝ }
 {
@@ -51,7 +51,7 @@ impl Header {
     // Where the constraints start.
     pub const CONSTRAINTS: usize = 84;
 
-    pub(crate) fn in_range(self) -> bool
+    pub fn in_range(self) -> bool
         ensures { λ r. ⌜ r ≡ inRange self ⌝ }
     {
         calendar::is_period(self.interval, self.date, self.run)
@@ -86,7 +86,7 @@ impl Header {
     }
 
     // The length that the counts give.
-    pub(crate) fn whole_length(self) -> usize
+    pub fn whole_length(self) -> usize
         ensures { λ r. ⌜ r ≡ wholeLength self ⌝ }
     {
         Self::CONSTRAINTS

@@ -25,7 +25,7 @@ use Rattle.totals.specs.Divisors.{basisOf, countedIn, constraintDivides, contra
 use Rattle.totals.specs.Sums.{entryHasSums}
 use Rattle.book.specs.Header.{headerOf}
 use Rattle.book.specs.Book.{bookOf}
-use Rattle.book.specs.Table.{verdict, check1, check2, check3, check4, check5, check6, check7, check8, check9, check10}
+use Rattle.book.specs.Table.{soundness, verdict, check1, check2, check3, check4, check5, check6, check7, check8, check9, check10}
 use Rattle.amounts.specs.Pools.{poolsByMode, residualPools, halvesOf}
 use Rattle.amounts.specs.Shares.{byEnergy, byFactor}
 use Rattle.accounts.specs.Rows.{rowsOf, keep, sumOf, concatMap, joined}
@@ -107,7 +107,7 @@ unfolding le16 le32 le64 int32 int64
 books-differ e = let p : length bookA ≡ length bookB = ap length e in omega arith
 
 pub two-books-agree : Agree bookA bookB 7
-unfolding le16 le32 le64 int32 int64 verdict check1 check2 check3 check4 check5 check6 check7 check8 check9 check10 firstOf earlier unless atRecord firstBad andThen headerOf isPeriod isDate daysIn entryRow constraintRow unitRow energyRow contractRow aboveOf belowOf modeWith termsOk modeFits sharesOk all some namedAt factorsAt basisOf countedIn constraintDivides contractDivides risesBy entryHasSums total keyed publicOf rowsOfAccount rowsOf keep
+unfolding le16 le32 le64 int32 int64 soundness verdict check1 check2 check3 check4 check5 check6 check7 check8 check9 check10 firstOf earlier unless atRecord firstBad andThen headerOf isPeriod isDate daysIn entryRow constraintRow unitRow energyRow contractRow aboveOf belowOf modeWith termsOk modeFits sharesOk all some namedAt factorsAt basisOf countedIn constraintDivides contractDivides risesBy entryHasSums total keyed publicOf rowsOfAccount rowsOf keep
 two-books-agree = record { first = refl; second = refl; public = refl; own = refl }
 
 -- ---- what both give account 7

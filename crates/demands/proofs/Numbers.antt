@@ -12,7 +12,7 @@ use Rattle.sections.specs.declared.Checked.the-variants.{Good, Bad}
 use Rattle.sections.specs.declared.Verdict.{Verdict}
 use Rattle.sections.specs.declared.Verdict.the-variants.{Accepted, Refused}
 use Rattle.book.specs.Book.{bookOf}
-use Rattle.book.specs.Table.{verdict, check1, check2, check3, check4, check5, check6, check7, check8, check9, check10}
+use Rattle.book.specs.Table.{soundness, verdict, check1, check2, check3, check4, check5, check6, check7, check8, check9, check10}
 use Rattle.accounts.specs.Account.{publicOf, rowsOfAccount, unknown}
 use Rattle.parties.specs.Once.{has}
 use Rattle.statement.specs.Lent.{Outcome, refuses, gives}
@@ -64,10 +64,10 @@ module _ (numbers : List ℕ) where
   among-first (Accepted ∷ vs) h = among-first vs (h .1)
   among-first (Refused k at₀ ∷ vs) h = h .0
 
--- 1 to 10
-pub verdict-numbers : (b : List ℕ) → Among onABook (verdict b)
-unfolding verdict check1 check2 check3 check4 check5 check6 check7 check8 check9 check10 has
-verdict-numbers b =
+-- 1 to 9
+sound-numbers : (b : List ℕ) → Among onABook (soundness b)
+unfolding soundness check1 check2 check3 check4 check5 check6 check7 check8 check9 has
+sound-numbers b =
     among-first onABook _ (
       among-unless onABook _ 1 refl,
       (
@@ -80,25 +80,19 @@ verdict-numbers b =
               among-first onABook _ (among-record onABook 5 _ _ _ refl, (among-record onABook 5 _ _ _ refl, (among-record onABook 5 _ _ _ refl, (among-record onABook 5 _ _ _ refl, (among-record onABook 5 _ _ _ refl, tt))))),
               (
                 among-first onABook _ (among-record onABook 6 _ _ _ refl, (among-record onABook 6 _ _ _ refl, (among-record onABook 6 _ _ _ refl, (among-record onABook 6 _ _ _ refl, tt)))),
-                (
-                  among-record onABook 7 _ _ _ refl,
-                  (
-                    among-record onABook 8 _ _ _ refl,
-                    (
-                      among-record onABook 9 _ _ _ refl,
-                      (
-                        among-first onABook _ (among-record onABook 10 _ _ _ refl, (among-record onABook 10 _ _ _ refl, tt)),
-                        tt,
-                      ),
-                    ),
-                  ),
-                ),
+                (among-record onABook 7 _ _ _ refl, (among-record onABook 8 _ _ _ refl, (among-record onABook 9 _ _ _ refl, tt))),
               ),
             ),
           ),
         ),
       ),
     )
+
+-- and 10
+pub verdict-numbers : (b : List ℕ) → Among onABook (verdict b)
+unfolding verdict check10 has
+verdict-numbers b =
+    among-first onABook _ (sound-numbers b, (among-first onABook _ (among-record onABook 10 _ _ _ refl, (among-record onABook 10 _ _ _ refl, tt)), tt))
 
 -- ---- the calls that write
 

@@ -1,4 +1,4 @@
--- What an accepted book promises, for whoever builds on it: no check need be opened again.
+-- What a sound book and an accepted book promise, for whoever builds on them: no check need be opened again.
 use Prim.Native.Nat.{ℕ, _+_, _≤_, _<_}
 use mathlib.Core.Path.{_≡_}
 use mathlib.Core.Bool.{true, _&&_, cond}
@@ -20,7 +20,7 @@ use Rattle.totals.specs.Divisors.{overRegions}
 use Rattle.totals.specs.Inner.Facts.{Funded}
 use Rattle.book.specs.Header.{headerOf, wholeLength}
 use Rattle.book.specs.Book.{Book, bookOf}
-use Rattle.book.specs.Inner.Facts.{Few, Fields, Ordered}
+use Rattle.book.specs.Inner.Facts.{Few, Fields, Ordered, Named}
 
 -- the sum of a number over the energy rows of one account in one region
 unfoldable pub ownTotal : Book → ℕ → ℕ → (EnergyRow → ℕ) → ℕ
@@ -60,8 +60,8 @@ EntrySumsAt B g =
     (totalOf (regionOf (B .energy)) g (asoeOf (B .energy)) (B .header .energies))
     (totalOf (regionOf (B .energy)) g (teOf (B .energy)) (B .header .energies))
 
--- of its records
-pub record Promise (B : Book) : Type 0 where
+-- what checks 1 to 9 promise of a book's records
+pub record Sound (B : Book) : Type 0 where
   -- the counts are small, and date, interval and run are in range
   pub few : Few (B .header)
   pub period : isPeriod (B .header .interval) (B .header .date) (B .header .run) ≡ true
@@ -71,20 +71,31 @@ pub record Promise (B : Book) : Type 0 where
   pub ordered : Ordered B
   -- each unit row has its constraint, and not one of mode 0
   pub owner : (u : ℕ) → u < B .header .units → Owner (B .constraint) (B .header .constraints) (B .unit) u
+  -- and hence a walk over both sections misses no unit row
+  pub named : Named B
   -- the factors of a factored constraint are whole
   pub factored : (j : ℕ) → j < B .header .constraints → B .constraint j .mode ≡ 1 → WholeAt B j
   -- one in default mode has no factors, and its default factors are whole
   pub default : (j : ℕ) → j < B .header .constraints → B .constraint j .mode ≡ 2 → PlainAt B j
   -- a region's entry is the sum of its rows
   pub entry : (g : ℕ) → g < 5 → EntrySumsAt B g
+  -- and hence an account's own energy never passes the region's total
+  pub own : (account g : ℕ) → g < 5 → OwnAtMost B account g
+
+-- and of its bytes: a sound book, one that checks 1 to 9 let through
+pub record SoundBook (b : List ℕ) : Type 0 where
+  pub long : length b ≡ wholeLength (headerOf b)
+  pub sound : Sound (bookOf b)
+
+-- what all ten promise of its records: it is sound, and every total to divide by is there
+pub record Promise (B : Book) : Type 0 where
+  pub sound : Sound B
   -- what a constraint divides by is not 0
   pub divisor : (j : ℕ) → j < B .header .constraints → 0 < overRegions (B .entry) (B .constraint j)
   -- nor are the totals of a region that a contract benefits
   pub funded : (k : ℕ) → k < B .header .contracts → (g : ℕ) → g < 5 → (factorOf (B .contract k .factors) g ≡ 0 → ⊥) → Funded (B .entry g)
-  -- and hence an account's own energy never passes the region's total
-  pub own : (account g : ℕ) → g < 5 → OwnAtMost B account g
 
--- of its bytes
+-- and of its bytes
 pub record AcceptedBook (b : List ℕ) : Type 0 where
   pub long : length b ≡ wholeLength (headerOf b)
   pub promise : Promise (bookOf b)

@@ -1,0 +1,70 @@
+-- `checks::order` meets its contract. Four sections, each with the verdict of its order, the earlier one first. Assumes nothing.
+use borrow.Author.Needs.{needs}
+use Rattle.checks.proofs.Answered.{check6-is}
+use Rattle.checks.proofs.order.Statement.{statement}
+use Rattle.checks.proofs.order.Tie as tie
+
+cast-section : tie.Need-cast-section
+cast-section c = search needs
+
+section-requires : tie.Need-section-requires
+section-requires c κs = search needs
+
+units-at-requires : tie.Need-units-at-requires
+units-at-requires c κs = search needs
+
+cast-section-2 : tie.Need-cast-section-2
+cast-section-2 c = search needs
+
+section-requires-2 : tie.Need-section-requires-2
+section-requires-2 c κs = search needs
+
+energies-at-requires : tie.Need-energies-at-requires
+energies-at-requires c κs = search needs
+
+cast-section-3 : tie.Need-cast-section-3
+cast-section-3 c = search needs
+
+section-requires-3 : tie.Need-section-requires-3
+section-requires-3 c κs = search needs
+
+contracts-at-requires : tie.Need-contracts-at-requires
+contracts-at-requires c κs = search needs
+
+cast-section-4 : tie.Need-cast-section-4
+cast-section-4 c = search needs
+
+section-requires-4 : tie.Need-section-requires-4
+section-requires-4 c κs = search needs
+
+earlier-requires : tie.Need-earlier-requires
+earlier-requires c κs = search needs
+
+earlier-requires-2 : tie.Need-earlier-requires-2
+earlier-requires-2 c κs = search needs
+
+earlier-requires-3 : tie.Need-earlier-requires-3
+earlier-requires-3 c κs = search needs
+
+returns : tie.Need-returns
+returns c = check6-is (c .before .before .before .before .before .before .before .before .before .before .before .before .before .before .before .args .book .now) _ (c .before .before .before .before .before .before .before .before .before .before .before .before .section .ensures) (c .before .before .before .before .before .before .before .before .before .before .before .units-at .ensures) (c .before .before .before .before .before .before .before .before .before .section2 .ensures) (c .before .before .before .before .before .before .before .before .energies-at .ensures) (c .before .before .before .before .before .before .section3 .ensures) (c .before .before .before .before .before .contracts-at .ensures) (c .before .before .before .section4 .ensures) (c .before .before .earlier .ensures) (c .before .earlier2 .ensures) (c .earlier3 .ensures)
+
+pub order-spec : {M : Type 1} → statement M
+order-spec =
+    tie.close
+    (tie.spec
+    cast-section
+    section-requires
+    units-at-requires
+    cast-section-2
+    section-requires-2
+    energies-at-requires
+    cast-section-3
+    section-requires-3
+    contracts-at-requires
+    cast-section-4
+    section-requires-4
+    earlier-requires
+    earlier-requires-2
+    earlier-requires-3
+    returns)
