@@ -14,49 +14,59 @@ use Rattle.records.specs.declared.rows.UnitRow.{UnitRow}
 use Rattle.factors.specs.Naming.{keyOf}
 use Rattle.factors.specs.Factors.{factorsAt, sumOver, noFactor}
 use Rattle.factors.specs.Inner.Facts.{sumsOk}
-use Rattle.factors.specs.Inner.Runs.{FactorsAdded, RunOf, Walked}
+use Rattle.factors.specs.Inner.Runs.{Factor, plus, minus, default, ofRow, ofSums, FactorsAdded, RunOf, Walked}
 use Rattle.factors.specs.declared.sums.Sums.{Sums}
+use Rattle.records.specs.Inner.Facts.{UnitRule}
+
+-- ---- the three factors
+
+-- what holds of all three holds of each
+pub of-three : (P : Factor → Type 0) → P plus → P minus → P default → (c : Factor) → P c
+of-three P p q d plus = p
+of-three P p q d minus = q
+of-three P p q d default = d
+
+-- sums are the same where the cursor and each factor's are
+pub same-sums : (t x : Sums) → t .next ≡ x .next → ((c : Factor) → ofSums c t ≡ ofSums c x) → t ≡ x
+same-sums t x e f = λ j. record { next = e j; pcf = f plus j; ncf = f minus j; dcf = f default j }
+
+-- nothing is summed at the start
+pub none-summed : (u : ℕ) (c : Factor) → ofSums c (record { next = u; pcf = 0; ncf = 0; dcf = 0 }) ≡ 0
+none-summed u = of-three (λ c. ofSums c (record { next = u; pcf = 0; ncf = 0; dcf = 0 }) ≡ 0) refl refl refl
+
+-- a row that keeps its rule has small ones
+row-small : (r : UnitRow) → UnitRule r → (c : Factor) → ofRow c r ≤ 1_000_000
+row-small r h = of-three (λ c. ofRow c r ≤ 1_000_000) (h .pcf) (h .ncf) (h .dcf)
+
+-- one row more, factor by factor
+pub added : {t x : Sums} {r : UnitRow} → x .next ≡ t .next + 1 → x .pcf ≡ t .pcf + r .pcf → x .ncf ≡ t .ncf + r .ncf → x .dcf ≡ t .dcf + r .dcf → FactorsAdded t r x
+added {t} {x} {r} n p q d = record { next = n; sum = of-three (λ c. ofSums c x ≡ ofSums c t + ofRow c r) p q d }
 
 -- no second sums are those with one row more
 pub added-once : (t : Sums) (r : UnitRow) (x y : Sums) → FactorsAdded t r x → FactorsAdded t r y → x ≡ y
-added-once t r x y a b =
-    λ j. record { next = (a .next ∙ sym (b .next)) j; pcf = (a .pcf ∙ sym (b .pcf)) j; ncf = (a .ncf ∙ sym (b .ncf)) j; dcf = (a .dcf ∙ sym (b .dcf)) j }
+added-once t r x y a b = same-sums x y (a .next ∙ sym (b .next)) (λ c. a .sum c ∙ sym (b .sum c))
+
+-- ---- turn by turn
 
 module _ (unit : ℕ → UnitRow) (m k : ℕ) where
   -- the sums over the rows so far, and where the cursor stands
   pub record Summed (t : Sums) : Type 0 where
     pub run : Run (keyOf unit) m k (t .next)
-    pub pcf : t .pcf ≡ sumOver unit (t .next) k (λ r. r .pcf)
-    pub ncf : t .ncf ≡ sumOver unit (t .next) k (λ r. r .ncf)
-    pub dcf : t .dcf ≡ sumOver unit (t .next) k (λ r. r .dcf)
+    pub sum : (c : Factor) → ofSums c t ≡ sumOver unit (t .next) k (ofRow c)
 
   pub summed-start : (u : ℕ) → Stands (keyOf unit) m k u → Summed (record { next = u; pcf = 0; ncf = 0; dcf = 0 })
-  summed-start u s =
-      record {
-        run = run-start _ m k u s;
-        pcf = sum-start _ m k _ u s;
-        ncf = sum-start _ m k _ u s;
-        dcf = sum-start _ m k _ u s;
-      }
+  summed-start u s = record { run = run-start _ m k u s; sum = λ c. none-summed u c ∙ sum-start _ m k _ u s }
 
   pub summed-more : {t x : Sums} {r : UnitRow} → Summed t → t .next < m → r ≡ unit (t .next) → r .constraint ≡ k → FactorsAdded t r x → Summed x
   summed-more {t} {x} {r} h l e q a =
       let key : unit (t .next) .constraint ≡ k = rw e at q in
       record {
         run = rw (a .next) (run-next _ m k (t .next) (h .run) l key);
-        pcf = rw (a .pcf, a .next) (sum-more _ m k _ (t .next) (h .pcf) key (ap (λ (r : UnitRow). r .pcf) e));
-        ncf = rw (a .ncf, a .next) (sum-more _ m k _ (t .next) (h .ncf) key (ap (λ (r : UnitRow). r .ncf) e));
-        dcf = rw (a .dcf, a .next) (sum-more _ m k _ (t .next) (h .dcf) key (ap (λ (r : UnitRow). r .dcf) e));
+        sum = λ c. rw (a .sum c, a .next) (sum-more _ m k _ (t .next) (h .sum c) key (ap (ofRow c) e));
       }
 
   past : (t : Sums) → Summed t → Past (keyOf unit) m k (t .next) → RunOf unit m k t
-  past t h p =
-      record {
-        past = p;
-        pcf = sum-past _ m k _ (t .next) (h .pcf) p;
-        ncf = sum-past _ m k _ (t .next) (h .ncf) p;
-        dcf = sum-past _ m k _ (t .next) (h .dcf) p;
-      }
+  past t h p = record { past = p; sum = λ c. sum-past _ m k _ (t .next) (h .sum c) p }
 
   -- the next row names another constraint
   pub summed-stop : {t : Sums} {r : UnitRow} → Walked unit m → Summed t → t .next < m → r ≡ unit (t .next) → (r .constraint ≡ k → ⊥) → RunOf unit m k t
@@ -67,30 +77,15 @@ module _ (unit : ℕ → UnitRow) (m k : ℕ) where
   summed-done {t} h l = past t h (run-done _ m k (t .next) (h .run) (omega (arith, h .run .high)))
 
   -- sums of at most 600 rows are small
-  small : (f : UnitRow → ℕ) (n : ℕ) → m ≤ 600 → n ≤ m → ((u : ℕ) → u < m → f (unit u) ≤ 1_000_000) → sumOver unit n k f ≤ 600_000_000
-  small f n few l h =
-      omega (arith, total-bound (keyed (keyOf unit) k (λ u. f (unit u))) 1_000_000 n (λ i j. keyed-le (keyOf unit) k (λ u. f (unit u)) 1_000_000 i (h i (omega arith))))
+  small : (c : Factor) (n : ℕ) → Walked unit m → n ≤ m → sumOver unit n k (ofRow c) ≤ 600_000_000
+  small c n w l =
+      omega (arith, w .few, total-bound (keyed (keyOf unit) k (λ u. ofRow c (unit u))) 1_000_000 n (λ i j. keyed-le (keyOf unit) k (λ u. ofRow c (unit u)) 1_000_000 i (row-small (unit i) (w .rules i (omega arith)) c)))
 
-  pub record Small (t : Sums) : Type 0 where
-    pub pcf : t .pcf ≤ 600_000_000
-    pub ncf : t .ncf ≤ 600_000_000
-    pub dcf : t .dcf ≤ 600_000_000
+  pub summed-small : {t : Sums} → Walked unit m → Summed t → (c : Factor) → ofSums c t ≤ 600_000_000
+  summed-small {t} w h c = rw (h .sum c) (small c (t .next) w (h .run .high))
 
-  pub summed-small : {t : Sums} → Walked unit m → Summed t → Small t
-  summed-small {t} w h =
-      record {
-        pcf = rw (h .pcf) (small (λ r. r .pcf) (t .next) (w .few) (h .run .high) (λ u l. w .rules u l .pcf));
-        ncf = rw (h .ncf) (small (λ r. r .ncf) (t .next) (w .few) (h .run .high) (λ u l. w .rules u l .ncf));
-        dcf = rw (h .dcf) (small (λ r. r .dcf) (t .next) (w .few) (h .run .high) (λ u l. w .rules u l .dcf));
-      }
-
-  pub run-small : {t : Sums} → Walked unit m → RunOf unit m k t → Small t
-  run-small {t} w h =
-      record {
-        pcf = rw (h .pcf) (small (λ r. r .pcf) m (w .few) (omega arith) (λ u l. w .rules u l .pcf));
-        ncf = rw (h .ncf) (small (λ r. r .ncf) m (w .few) (omega arith) (λ u l. w .rules u l .ncf));
-        dcf = rw (h .dcf) (small (λ r. r .dcf) m (w .few) (omega arith) (λ u l. w .rules u l .dcf));
-      }
+  pub run-small : {t : Sums} → Walked unit m → RunOf unit m k t → (c : Factor) → ofSums c t ≤ 600_000_000
+  run-small w h c = rw (h .sum c) (small c m w (omega arith))
 
 -- what a row counts for, by whether it names the constraint
 one-row : (t : Bool) (p n : ℕ) → eqb (cond t (p + n) 0) 0 ≡ (not t || (eqb p 0 && eqb n 0))
@@ -109,4 +104,4 @@ none-is unit m k =
 -- the test on the sums of a run is the rule
 pub factors-is : (unit : ℕ → UnitRow) (m : ℕ) (con : ℕ → Constraint) (j : ℕ) {r : Constraint} {t : Sums} {b : Bool} → r ≡ con j → RunOf unit m (r .id) t → b ≡ sumsOk r (t .pcf) (t .ncf) (t .dcf) → b ≡ factorsAt unit m con j
 unfolding factorsAt
-factors-is unit m con j e h q = q ∙ rw (h .pcf, h .ncf, h .dcf, e, none-is unit m (con j .id))
+factors-is unit m con j e h q = q ∙ rw (h .sum plus, h .sum minus, h .sum default, e, none-is unit m (con j .id))

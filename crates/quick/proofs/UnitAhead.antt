@@ -20,9 +20,9 @@ use Rattle.records.proofs.Rule.{unit-rules, units-rise}
 use Rattle.factors.specs.Naming.{idOf, keyOf}
 use Rattle.factors.specs.Inner.Facts.{Owner}
 use Rattle.factors.specs.Factors.{sumOver}
-use Rattle.factors.specs.Inner.Runs.{RunOf}
+use Rattle.factors.specs.Inner.Runs.{Factor, plus, minus, default, ofRow, ofSums, RunOf}
 use Rattle.factors.specs.declared.sums.Sums.{Sums}
-use Rattle.factors.proofs.Runs.{factors-is}
+use Rattle.factors.proofs.Runs.{of-three, factors-is}
 use Rattle.factors.proofs.Said.{owner-of, whole-of, plain-of}
 use Rattle.quick.specs.Inner.Holds.{unitsHold}
 use Rattle.quick.specs.Inner.Units.{Taken, runHolds}
@@ -76,13 +76,11 @@ module _ (con : ℕ → Constraint) (n : ℕ) (row : ℕ → UnitRow) (m : ℕ) 
               under = λ i a. ⊎-elim (λ (b : i < u). omega (arith, passed-under con n row m j u s l refl (p .passed) i b)) (λ (b : u ≤ i). omega (arith, h .along .each i b a .same)) (lt-or-ge i u);
               over = λ i a b. ⊎-elim (λ (e : con j .id ≡ row i .constraint). absurd (behind i a b (sym e))) (λ (g : con j .id < row i .constraint). g) (eq-or-lt-of-le (over i (omega (arith, h .along .low)) b));
             };
-            pcf = h .along .pcf ∙ whole (λ r. r .pcf);
-            ncf = h .along .ncf ∙ whole (λ r. r .ncf);
-            dcf = h .along .dcf ∙ whole (λ r. r .dcf);
+            sum = λ c. h .along .sum c ∙ whole c;
           }
         where
-          whole : (f : UnitRow → ℕ) → sumOver row (t .next) (con j .id) f ≡ sumOver row m (con j .id) f
-          whole f = total-rest _ (t .next) m (h .along .high) (λ v a b. keyed-miss (keyOf row) (con j .id) (λ x. f (row x)) v (behind v a b))
+          whole : (c : Factor) → sumOver row (t .next) (con j .id) (ofRow c) ≡ sumOver row m (con j .id) (ofRow c)
+          whole c = total-rest _ (t .next) m (h .along .high) (λ v a b. keyed-miss (keyOf row) (con j .id) (λ x. ofRow c (row x)) v (behind v a b))
 
       -- a constraint of mode 0 has no row
       no-row : con j .mode ≡ 0 → t .next ≡ u
@@ -101,28 +99,23 @@ module _ (con : ℕ → Constraint) (n : ℕ) (row : ℕ → UnitRow) (m : ℕ) 
       small : Small t
       small = by-mode (con j .mode) (c .mode) none whole plain
         where
-          zero-sum : (f : UnitRow → ℕ) {x : ℕ} → con j .mode ≡ 0 → x ≡ sumOver row (t .next) (con j .id) f → x ≡ 0
-          zero-sum f z e =
-              e ∙ sym (total-zero _ (t .next) (λ i a. keyed-miss (keyOf row) (con j .id) (λ x. f (row x)) i
-              (λ (q : row i .constraint ≡ con j .id). omega (arith, passed-under con n row m j u s l refl (p .passed) i (omega (arith, no-row z))))))
-
           none : con j .mode ≡ 0 → Small t
-          none z =
-              record {
-                pcf = omega (arith, zero-sum (λ r. r .pcf) z (h .along .pcf));
-                ncf = omega (arith, zero-sum (λ r. r .ncf) z (h .along .ncf));
-                dcf = omega (arith, zero-sum (λ r. r .dcf) z (h .along .dcf));
-              }
+          none z = record { each = λ c. omega (arith, empty c) }
+            where
+              empty : (c : Factor) → ofSums c t ≡ 0
+              empty c =
+                  h .along .sum c ∙ sym (total-zero _ (t .next) (λ i a. keyed-miss (keyOf row) (con j .id) (λ x. ofRow c (row x)) i
+                  (λ (q : row i .constraint ≡ con j .id). omega (arith, passed-under con n row m j u s l refl (p .passed) i (omega (arith, no-row z))))))
 
           whole : con j .mode ≡ 1 → Small t
           whole z =
               let g = whole-of row m con n (first-good _ n (w .factored)) j l z in
-              record { pcf = omega (arith, run-of .pcf, g .pcf); ncf = omega (arith, run-of .ncf, g .ncf); dcf = omega (arith, run-of .dcf, g .dcf) }
+              record { each = of-three (λ c. ofSums c t ≤ 1_000_000) (omega (arith, run-of .sum plus, g .pcf)) (omega (arith, run-of .sum minus, g .ncf)) (omega (arith, run-of .sum default, g .dcf)) }
 
           plain : con j .mode ≡ 2 → Small t
           plain z =
               let g = plain-of row m con n (first-good _ n (w .factored)) j l z in
-              record { pcf = omega (arith, run-of .pcf, g .pcf); ncf = omega (arith, run-of .ncf, g .ncf); dcf = omega (arith, run-of .dcf, g .dcf) }
+              record { each = of-three (λ c. ofSums c t ≤ 1_000_000) (omega (arith, run-of .sum plus, g .pcf)) (omega (arith, run-of .sum minus, g .ncf)) (omega (arith, run-of .sum default, g .dcf)) }
 
       -- the constraint keeps its rule with the sums of the run
       settled-there : Settled (con j) t u

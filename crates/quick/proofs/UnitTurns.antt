@@ -26,8 +26,9 @@ use Rattle.records.specs.declared.rows.UnitRow.{UnitRow}
 use Rattle.factors.specs.Naming.{keyOf}
 use Rattle.factors.specs.Factors.{sumOver}
 use Rattle.factors.specs.Inner.Facts.{sumsOk}
-use Rattle.factors.specs.Inner.Runs.{FactorsAdded}
+use Rattle.factors.specs.Inner.Runs.{Factor, plus, minus, default, ofRow, ofSums, FactorsAdded}
 use Rattle.factors.specs.declared.sums.Sums.{Sums}
+use Rattle.factors.proofs.Runs.{of-three, same-sums, none-summed}
 use Rattle.quick.specs.Inner.Units.{follows, smallSums, runHolds, Followed, Along, Taken}
 use Rattle.quick.proofs.Said.{no-yes}
 
@@ -73,9 +74,7 @@ module _ (row : ℕ → UnitRow) (m k start : ℕ) where
           low = le-refl start;
           high = l;
           each = λ i a b. absurd (none i a b);
-          pcf = nothing (λ r. r .pcf);
-          ncf = nothing (λ r. r .ncf);
-          dcf = nothing (λ r. r .dcf);
+          sum = λ c. none-summed start c ∙ nothing (ofRow c);
         };
         above = λ i x e h. pair-first (row i .constraint) (row i .unit) k x (under i (omega arith));
         over = λ x l h. l;
@@ -108,9 +107,7 @@ module _ (row : ℕ → UnitRow) (m k start : ℕ) where
           low = omega (arith, a .next, s .low);
           high = omega (arith, a .next);
           each = λ i c d. below-more (λ (i : ℕ). start ≤ i → Followed row k i) u (λ i y z. s .each i z y) (λ _. here) i (rw (a .next) at d) c;
-          pcf = rw (a .pcf, a .next) (sum-more _ m k _ u (s .pcf) key (ap (λ (r : UnitRow). r .pcf) e));
-          ncf = rw (a .ncf, a .next) (sum-more _ m k _ u (s .ncf) key (ap (λ (r : UnitRow). r .ncf) e));
-          dcf = rw (a .dcf, a .next) (sum-more _ m k _ u (s .dcf) key (ap (λ (r : UnitRow). r .dcf) e));
+          sum = λ c. rw (a .sum c, a .next) (sum-more _ m k _ u (s .sum c) key (ap (ofRow c) e));
         };
         above = λ i y z w. last-row u i y key (ap (λ (r : UnitRow). r .unit) e) (omega (arith, a .next)) w;
         over = λ y l w. rw e (pair-later (row u .constraint) (row u .unit) k y key (w u (omega (arith, a .next))));
@@ -141,7 +138,7 @@ module _ (row : ℕ → UnitRow) (m k start : ℕ) where
 
   -- no second end and no other sums fit a run
   pub taken-once : (t x : Sums) → Taken row m k start t → Taken row m k start x → t ≡ x
-  taken-once t x h g = λ j. record { next = next j; pcf = sums (λ r. r .pcf) (h .along .pcf) (g .along .pcf) j; ncf = sums (λ r. r .ncf) (h .along .ncf) (g .along .ncf) j; dcf = sums (λ r. r .dcf) (h .along .dcf) (g .along .dcf) j }
+  taken-once t x h g = same-sums t x next (λ c. h .along .sum c ∙ ap (λ (i : ℕ). sumOver row i k (ofRow c)) next ∙ sym (g .along .sum c))
     where
       not-before : (t x : Sums) → Taken row m k start t → Taken row m k start x → t .next < x .next → ⊥
       not-before t x h g l = h .ended (omega (arith, g .along .high)) (g .along .each (t .next) (h .along .low) l)
@@ -155,9 +152,6 @@ module _ (row : ℕ → UnitRow) (m k start : ℕ) where
           (λ (b : t .next ≤ x .next). omega arith)
           (lt-or-ge (x .next) (t .next)))
           (lt-or-ge (t .next) (x .next))
-
-      sums : (f : UnitRow → ℕ) {a b : ℕ} → a ≡ sumOver row (t .next) k f → b ≡ sumOver row (x .next) k f → a ≡ b
-      sums f p q = p ∙ ap (λ (i : ℕ). sumOver row i k f) next ∙ sym q
 
 -- ---- sums that fit
 
@@ -181,56 +175,36 @@ minus-narrow w = by (ltb w 2_147_483_648)
     by false = size-narrow w
 
 module _ (s : List ℕ) where
-  row-pcf : (i : ℕ) → unitRow s i .pcf ≤ 4_294_967_295
+  row-narrow : (i : ℕ) (c : Factor) → ofRow c (unitRow s i) ≤ 4_294_967_295
   unfolding unitRow
-  row-pcf i = plus-narrow (u32At s (i * 20 + 12))
-
-  row-ncf : (i : ℕ) → unitRow s i .ncf ≤ 4_294_967_295
-  unfolding unitRow
-  row-ncf i = minus-narrow (u32At s (i * 20 + 12))
-
-  row-dcf : (i : ℕ) → unitRow s i .dcf ≤ 4_294_967_295
-  unfolding unitRow
-  row-dcf i = size-narrow (u32At s (i * 20 + 16))
-
-  bound : (f : UnitRow → ℕ) (n k : ℕ) → n ≤ 600 → ((i : ℕ) → f (unitRow s i) ≤ 4_294_967_295) → sumOver (unitRow s) n k f ≤ 3_000_000_000_000
-  bound f n k few h =
-      omega (arith, total-bound (keyed (keyOf (unitRow s)) k (λ u. f (unitRow s u))) 4_294_967_295 n (λ i _. keyed-le (keyOf (unitRow s)) k (λ u. f (unitRow s u)) 4_294_967_295 i (h i)))
+  row-narrow i plus = plus-narrow (u32At s (i * 20 + 12))
+  row-narrow i minus = minus-narrow (u32At s (i * 20 + 12))
+  row-narrow i default = size-narrow (u32At s (i * 20 + 16))
 
   -- sums of at most 600 sizes of 32 bits
-  pub record Fits (t : Sums) : Type 0 where
-    pub pcf : t .pcf ≤ 3_000_000_000_000
-    pub ncf : t .ncf ≤ 3_000_000_000_000
-    pub dcf : t .dcf ≤ 3_000_000_000_000
+  bound : (c : Factor) (n k : ℕ) → n ≤ 600 → sumOver (unitRow s) n k (ofRow c) ≤ 3_000_000_000_000
+  bound c n k few =
+      omega (arith, total-bound (keyed (keyOf (unitRow s)) k (λ u. ofRow c (unitRow s u))) 4_294_967_295 n (λ i _. keyed-le (keyOf (unitRow s)) k (λ u. ofRow c (unitRow s u)) 4_294_967_295 i (row-narrow i c)))
 
-  pub along-fits : (m k start : ℕ) {t : Sums} → m ≤ 600 → Along (unitRow s) m k start t → Fits t
-  along-fits m k start {t} few h =
-      let l : t .next ≤ 600 = omega (arith, h .high) in
-      record {
-        pcf = rw (h .pcf) (bound (λ r. r .pcf) (t .next) k l row-pcf);
-        ncf = rw (h .ncf) (bound (λ r. r .ncf) (t .next) k l row-ncf);
-        dcf = rw (h .dcf) (bound (λ r. r .dcf) (t .next) k l row-dcf);
-      }
+  pub along-fits : (m k start : ℕ) {t : Sums} → m ≤ 600 → Along (unitRow s) m k start t → (c : Factor) → ofSums c t ≤ 3_000_000_000_000
+  along-fits m k start {t} few h c = rw (h .sum c) (bound c (t .next) k (omega (arith, h .high)))
 
 -- ---- the test of a constraint
 
+-- no sum is above 1,000,000
 pub record Small (t : Sums) : Type 0 where
-  pub pcf : t .pcf ≤ 1_000_000
-  pub ncf : t .ncf ≤ 1_000_000
-  pub dcf : t .dcf ≤ 1_000_000
+  pub each : (c : Factor) → ofSums c t ≤ 1_000_000
 
 pub small-sums : (t : Sums) {b : Bool} → b ≡ smallSums t → not b ≡ false → Small t
 small-sums t {b} e n =
     let h = every (leb (t .pcf) 1_000_000 ∷ leb (t .ncf) 1_000_000 ∷ leb (t .dcf) 1_000_000 ∷ []) (sym e ∙ not-false b n) in
     record {
-      pcf = leb-true (t .pcf) 1_000_000 (h .0);
-      ncf = leb-true (t .ncf) 1_000_000 (h .1 .0);
-      dcf = leb-true (t .dcf) 1_000_000 (h .1 .1 .0);
+      each = of-three (λ c. ofSums c t ≤ 1_000_000) (leb-true (t .pcf) 1_000_000 (h .0)) (leb-true (t .ncf) 1_000_000 (h .1 .0)) (leb-true (t .dcf) 1_000_000 (h .1 .1 .0));
     }
 
 -- so they are what the test of the sums asks for
 pub small-room : {t : Sums} → Small t → (t .pcf ≤ 600_000_000) × ((t .ncf ≤ 600_000_000) × (t .dcf ≤ 600_000_000))
-small-room h = (omega (arith, h .pcf), (omega (arith, h .ncf), omega (arith, h .dcf)))
+small-room h = (omega (arith, h .each plus), (omega (arith, h .each minus), omega (arith, h .each default)))
 
 -- the answer where they are not small, and where they are; b is what the test of the sums answered
 pub settles-no : (r : Constraint) (t : Sums) (start : ℕ) {b : Bool} → b ≡ smallSums t → not b ≡ true → false ≡ runHolds r t start
@@ -261,7 +235,7 @@ settled-says r t start h =
 pub settled-said : (r : Constraint) (t : Sums) (start : ℕ) → Settled r t start → runHolds r t start ≡ true
 settled-said r t start s =
     all (smallSums t ∷ ((not (eqb (r .mode) 0) || eqb (t .next) start) && sumsOk r (t .pcf) (t .ncf) (t .dcf)) ∷ []) (
-      all (leb (t .pcf) 1_000_000 ∷ leb (t .ncf) 1_000_000 ∷ leb (t .dcf) 1_000_000 ∷ []) (le-leb (t .pcf) 1_000_000 (s .small .pcf), (le-leb (t .ncf) 1_000_000 (s .small .ncf), (le-leb (t .dcf) 1_000_000 (s .small .dcf), tt))),
+      all (leb (t .pcf) 1_000_000 ∷ leb (t .ncf) 1_000_000 ∷ leb (t .dcf) 1_000_000 ∷ []) (le-leb (t .pcf) 1_000_000 (s .small .each plus), (le-leb (t .ncf) 1_000_000 (s .small .each minus), (le-leb (t .dcf) 1_000_000 (s .small .each default), tt))),
       (all ((not (eqb (r .mode) 0) || eqb (t .next) start) ∷ sumsOk r (t .pcf) (t .ncf) (t .dcf) ∷ []) (live (eqb (r .mode) 0) refl, (s .sums, tt)), tt),
     )
   where

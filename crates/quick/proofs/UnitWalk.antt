@@ -24,6 +24,7 @@ use Rattle.factors.specs.Naming.{idOf, keyOf, namedAt}
 use Rattle.factors.specs.Inner.Facts.{Owner}
 use Rattle.factors.specs.Factors.{sumOver, factorsAt}
 use Rattle.factors.specs.Inner.Facts.{sumsOk}
+use Rattle.factors.specs.Inner.Runs.{Factor, plus, minus, default, ofRow, ofSums}
 use Rattle.factors.specs.declared.sums.Sums.{Sums}
 use Rattle.factors.proofs.Runs.{none-is}
 use Rattle.quick.specs.Inner.Units.{Taken}
@@ -55,10 +56,11 @@ module _ (con : ℕ → Constraint) (n : ℕ) (row : ℕ → UnitRow) (m : ℕ) 
     both P a b i d = ⊎-elim (λ (x : i < u). a i x) (λ (x : u ≤ i). b i x d) (lt-or-ge i u)
 
     -- a number of a row in the run is at most the sum
-    part : (f : UnitRow → ℕ) {x : ℕ} (i : ℕ) → i < t .next → row i .constraint ≡ con j .id → x ≡ sumOver row (t .next) (con j .id) f → x ≤ 1_000_000 → f (row i) ≤ 1_000_000
-    part f i d e q b =
-        let z = total-has (keyed (keyOf row) (con j .id) (λ v. f (row v))) (t .next) i d in
-        rw (keyed-hit (keyOf row) (con j .id) (λ v. f (row v)) i e) (omega arith)
+    part : (i : ℕ) → i < t .next → row i .constraint ≡ con j .id → (f : Factor) → ofRow f (row i) ≤ 1_000_000
+    part i d e f =
+        let z = total-has (keyed (keyOf row) (con j .id) (λ v. ofRow f (row v))) (t .next) i d in
+        let b = h .along .sum f in
+        rw (keyed-hit (keyOf row) (con j .id) (λ v. ofRow f (row v)) i e) (omega (arith, g .small .each f))
 
     fields-of : (i : ℕ) → u ≤ i → i < t .next → unitOk (row i) ≡ true
     fields-of i a d =
@@ -70,10 +72,10 @@ module _ (con : ℕ → Constraint) (n : ℕ) (row : ℕ → UnitRow) (m : ℕ) 
             (
               le-leb 1 (row i .account) (f .account),
               (
-                le-leb (row i .pcf) 1_000_000 (part (λ r. r .pcf) i d (f .same) (h .along .pcf) (g .small .pcf)),
+                le-leb (row i .pcf) 1_000_000 (part i d (f .same) plus),
                 (
-                  le-leb (row i .ncf) 1_000_000 (part (λ r. r .ncf) i d (f .same) (h .along .ncf) (g .small .ncf)),
-                  (le-leb (row i .dcf) 1_000_000 (part (λ r. r .dcf) i d (f .same) (h .along .dcf) (g .small .dcf)), tt),
+                  le-leb (row i .ncf) 1_000_000 (part i d (f .same) minus),
+                  (le-leb (row i .dcf) 1_000_000 (part i d (f .same) default), tt),
                 ),
               ),
             ),
@@ -93,9 +95,9 @@ module _ (con : ℕ → Constraint) (n : ℕ) (row : ℕ → UnitRow) (m : ℕ) 
     wider i a = let o = p .own i a in record { place = o .place; within = omega (arith, o .within); same = o .same; live = o .live }
 
     -- the run adds nothing to the sums of earlier constraints
-    kept : (f : UnitRow → ℕ) (i : ℕ) → i < j → sumOver row u (con i .id) f ≡ sumOver row (t .next) (con i .id) f
-    kept f i a =
-        total-rest _ u (t .next) (h .along .low) (λ v b d. keyed-miss (keyOf row) (con i .id) (λ w. f (row w)) v
+    kept : (i : ℕ) → i < j → (f : Factor) → sumOver row u (con i .id) (ofRow f) ≡ sumOver row (t .next) (con i .id) (ofRow f)
+    kept i a f =
+        total-rest _ u (t .next) (h .along .low) (λ v b d. keyed-miss (keyOf row) (con i .id) (λ w. ofRow f (row w)) v
         (λ (q : keyOf row v ≡ con i .id). omega (arith, h .along .each v b d .same, s .rise i j a l)))
 
     pub passed-more : Passed (j + 1) (t .next)
@@ -106,8 +108,8 @@ module _ (con : ℕ → Constraint) (n : ℕ) (row : ℕ → UnitRow) (m : ℕ) 
           fields = both (λ (i : ℕ). unitOk (row i) ≡ true) (p .fields) fields-of;
           order = both (λ (i : ℕ). risesBy unitBelow row i ≡ true) (p .order) (λ i a d. h .along .each i a d .order);
           sums = below-more _ j
-              (λ i a. rw (kept (λ r. r .pcf) i a, kept (λ r. r .ncf) i a, kept (λ r. r .dcf) i a) at (p .sums i a))
-              (rw (h .along .pcf, h .along .ncf, h .along .dcf) at (g .sums));
+              (λ i a. rw (kept i a plus, kept i a minus, kept i a default) at (p .sums i a))
+              (rw (h .along .sum plus, h .along .sum minus, h .along .sum default) at (g .sums));
         }
 
   -- all constraints passed, and all rows taken

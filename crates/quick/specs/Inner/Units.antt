@@ -10,6 +10,7 @@ use Rattle.records.specs.declared.rows.Constraint.{Constraint}
 use Rattle.records.specs.declared.rows.UnitRow.{UnitRow}
 use Rattle.factors.specs.Factors.{sumOver}
 use Rattle.factors.specs.Inner.Facts.{sumsOk}
+use Rattle.factors.specs.Inner.Runs.{Factor, ofRow, ofSums}
 use Rattle.factors.specs.declared.sums.Sums.{Sums}
 
 -- a row of constraint k above a row of unit `last`, with an account
@@ -28,9 +29,7 @@ pub record Along (row : ℕ → UnitRow) (m k start : ℕ) (t : Sums) : Type 0 w
   pub low : start ≤ t .next
   pub high : t .next ≤ m
   pub each : (i : ℕ) → start ≤ i → i < t .next → Followed row k i
-  pub pcf : t .pcf ≡ sumOver row (t .next) k (λ r. r .pcf)
-  pub ncf : t .ncf ≡ sumOver row (t .next) k (λ r. r .ncf)
-  pub dcf : t .dcf ≡ sumOver row (t .next) k (λ r. r .dcf)
+  pub sum : (c : Factor) → ofSums c t ≡ sumOver row (t .next) k (ofRow c)
 
 -- and the next row, if there is one, does not: the run was taken to its end
 pub record Taken (row : ℕ → UnitRow) (m k start : ℕ) (t : Sums) : Type 0 where

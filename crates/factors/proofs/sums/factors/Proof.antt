@@ -11,6 +11,7 @@ use Rattle.sections.proofs.Walk.{stands-first, stands-next}
 use Rattle.records.specs.Rows.{constraintRow, unitRow}
 use Rattle.factors.specs.Factors.{factorsAt}
 use Rattle.factors.specs.Naming.{idOf, keyOf}
+use Rattle.factors.specs.Inner.Runs.{plus, minus, default}
 use Rattle.factors.proofs.Runs.{run-small, factors-is}
 use Rattle.factors.proofs.sums.factors.Statement.{statement}
 use Rattle.factors.proofs.sums.factors.Tie as tie
@@ -34,7 +35,7 @@ run-requires : tie.Need-run-requires Inv-loop μ-loop
 run-requires c κs = (search needs, (c .before .before .before .before .before .pre .1 .0, rw (c .constraint-row .ensures) (c .before .before .loop .inv .1 .1 (c .before .loop-test .taken))))
 
 sums-ok-requires : tie.Need-sums-ok-requires Inv-loop μ-loop
-sums-ok-requires c κs = let h = run-small _ _ _ (c .before .before .before .before .before .before .pre .1 .0) (c .run .ensures) in (h .pcf, (h .ncf, h .dcf))
+sums-ok-requires c κs = let h = run-small _ _ _ (c .before .before .before .before .before .before .pre .1 .0) (c .run .ensures) in (h plus, (h minus, h default))
 
 returns : tie.Need-returns Inv-loop μ-loop
 returns c = first-stop _ _ _ (c .before .before .before .before .before .loop .inv .1 .0) (factors-is _ _ _ _ (c .before .before .before .constraint-row .ensures) (c .before .before .run .ensures) (c .before .sums-ok .ensures)) (c .if1 .taken) (search needs)

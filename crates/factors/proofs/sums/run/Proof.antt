@@ -3,6 +3,7 @@ use Prim.Native.Nat.{_-_}
 use native.Mathlib.Omega.{arith}
 use borrow.Author.Needs.{needs}
 use Rattle.records.specs.Rows.{unitRow}
+use Rattle.factors.specs.Inner.Runs.{plus, minus, default}
 use Rattle.factors.proofs.Runs.{Summed, summed-start, summed-more, summed-stop, summed-done, summed-small}
 use Rattle.factors.proofs.sums.run.Statement.{statement}
 use Rattle.factors.proofs.sums.run.Tie as tie
@@ -23,7 +24,7 @@ returns : tie.Need-returns Inv-loop μ-loop
 returns c = summed-stop _ _ _ (c .before .before .before .before .before .before .before .pre .1 .0) (c .before .before .before .before .before .loop .inv) (c .before .before .before .if1 .taken) (c .before .before .unit-row .ensures) (c .if2 .taken)
 
 add-requires : tie.Need-add-requires Inv-loop μ-loop
-add-requires c κs = let h = summed-small _ _ _ (c .before .before .before .before .before .before .before .pre .1 .0) (c .before .before .before .before .before .loop .inv) in (omega (arith, c .before .before .before .before .before .before .before .pre .1 .0 .few), (omega (arith, h .pcf), (omega (arith, h .ncf), omega (arith, h .dcf))))
+add-requires c κs = let h = summed-small _ _ _ (c .before .before .before .before .before .before .before .pre .1 .0) (c .before .before .before .before .before .loop .inv) in (omega (arith, c .before .before .before .before .before .before .before .pre .1 .0 .few), (omega (arith, h plus), (omega (arith, h minus), omega (arith, h default))))
 
 loop-less : tie.Need-loop-less Inv-loop μ-loop
 loop-less c = omega (arith, c .add .ensures .next)

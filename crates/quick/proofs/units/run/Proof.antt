@@ -3,6 +3,7 @@ use Prim.Native.Nat.{_-_}
 use native.Mathlib.Omega.{arith}
 use borrow.Author.Needs.{needs}
 use Rattle.records.specs.Rows.{unitRow}
+use Rattle.factors.specs.Inner.Runs.{plus, minus, default}
 use Rattle.quick.proofs.UnitTurns.{Going, going-start, going-more, going-stop, going-done, along-fits}
 use Rattle.quick.proofs.units.run.Statement.{statement}
 use Rattle.quick.proofs.units.run.Tie as tie
@@ -26,7 +27,7 @@ returns : tie.Need-returns Inv-loop μ-loop
 returns c = going-stop _ _ _ _ (c .before .before .before .before .before .loop .inv) (c .before .before .unit-row .ensures) (c .before .in-run .ensures) (c .if2 .taken)
 
 add-requires : tie.Need-add-requires Inv-loop μ-loop
-add-requires c κs = let few = c .before .before .before .before .before .before .before .pre .0 .1 .0 in let h = along-fits _ _ _ _ few (c .before .before .before .before .before .loop .inv .along) in (omega arith, (h .pcf, (h .ncf, h .dcf)))
+add-requires c κs = let few = c .before .before .before .before .before .before .before .pre .0 .1 .0 in let h = along-fits _ _ _ _ few (c .before .before .before .before .before .loop .inv .along) in (omega arith, (h plus, (h minus, h default)))
 
 loop-less : tie.Need-loop-less Inv-loop μ-loop
 loop-less c = omega (arith, c .add .ensures .next)
