@@ -1,36 +1,18 @@
 -- What acceptance says of each check, and that the verdict is the table's ten in a row. Assumes nothing.
-use mathlib.Core.List.{List, [], _∷_, _++_}
+use mathlib.Core.List.{List, [], _∷_}
 use Prim.Native.Nat.{ℕ}
-use mathlib.Core.Path.{_≡_, refl, sym, _∙_}
-use Rattle.sections.specs.Refusal.{earlier, firstOf}
-use Rattle.sections.specs.declared.Verdict.{Verdict}
-use Rattle.sections.specs.declared.Verdict.the-variants.{Accepted, Refused}
-use Rattle.sections.proofs.Refusal.{first-held, earlier-last}
+use mathlib.Core.Path.{_≡_}
+use Rattle.sections.specs.Refusal.{firstOf}
+use Rattle.sections.specs.declared.Verdict.the-variants.{Accepted}
+use Rattle.sections.proofs.Refusal.{first-held, first-joined}
 use Rattle.book.specs.Book.{Book, bookOf}
 use Rattle.book.specs.Table.{check1, check2, check3, check4, check5, check6, check7, check8, check9, check10, recordChecks, soundness, verdict}
 
 -- ---- the ten in a row
 
-earlier-moved : (a b c : Verdict) → earlier (earlier a b) c ≡ earlier a (earlier b c)
-unfolding earlier
-earlier-moved Accepted b c = refl
-earlier-moved (Refused n k) b c = refl
-
--- the first refusal of a row comes first of what follows it too
-first-joined : (xs ys : List Verdict) → firstOf (firstOf xs ∷ ys) ≡ firstOf (xs ++ ys)
-unfolding firstOf earlier
-first-joined [] ys = refl
-first-joined (x ∷ xs) ys = rw (earlier-moved x (firstOf xs) (firstOf ys), first-joined xs ys)
-
 pub ten-in-a-row : (b : List ℕ) → verdict b ≡ firstOf (check1 b ∷ check2 b ∷ check3 b ∷ check4 b ∷ check5 (bookOf b) ∷ check6 (bookOf b) ∷ check7 (bookOf b) ∷ check8 (bookOf b) ∷ check9 (bookOf b) ∷ check10 (bookOf b) ∷ [])
 unfolding verdict soundness
 ten-in-a-row b = first-joined (check1 b ∷ check2 b ∷ check3 b ∷ check4 b ∷ recordChecks (bookOf b)) (check10 (bookOf b) ∷ [])
-
--- ---- the last of a row; v is what the check answered
-
-pub verdict-only : {v p : Verdict} → v ≡ p → v ≡ firstOf (p ∷ [])
-unfolding firstOf
-verdict-only {p = p} e = e ∙ sym (earlier-last p)
 
 -- ---- 5 to 9
 

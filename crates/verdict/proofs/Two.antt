@@ -6,14 +6,13 @@ use native.Mathlib.Omega.{arith}
 use lib.ListN.{length}
 use Rattle.sections.specs.declared.Verdict.{Verdict}
 use Rattle.sections.specs.declared.Verdict.the-variants.{Accepted, Refused}
-use Rattle.sections.proofs.Refusal.{verdict-stop, verdict-go}
+use Rattle.sections.proofs.Refusal.{verdict-stop, verdict-go, verdict-last}
 use Rattle.book.specs.declared.header.Header.{Header}
 use Rattle.book.specs.Header.{headerOf}
 use Rattle.book.specs.Book.{bookIn}
 use Rattle.book.specs.Table.{check10, soundness, verdict}
 use Rattle.book.specs.Inner.Facts.{Laid, Fields}
 use Rattle.book.specs.Inner.Accepted.{SoundBook}
-use Rattle.book.proofs.Passed.{verdict-only}
 use Rattle.book.proofs.Promise.{sound}
 
 -- v is what checks 1 to 9 answered
@@ -38,4 +37,4 @@ module _ (b : List ℕ) {v : Verdict} (q : v ≡ soundness b) where
     -- w is what check 10 answered
     pub tenth : {h : Header} {w : Verdict} → h ≡ headerOf b → w ≡ check10 (bookIn b h) → w ≡ verdict b
     unfolding verdict
-    tenth i k = verdict-go _ e q (verdict-only (rw i at k))
+    tenth i k = verdict-go _ e q (verdict-last (rw i at k))

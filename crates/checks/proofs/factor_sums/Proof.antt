@@ -35,13 +35,26 @@ cast-factors-2 : tie.Need-cast-factors-2
 cast-factors-2 c = search needs
 
 factors-requires : tie.Need-factors-requires
-factors-requires c κs = ((constraints-room _ _ (c .before .before .before .before .before .before .pre .0), units-room _ _ (c .before .before .before .before .before .before .pre .0) _ (c .before .before .before .before .units-at .ensures)), (record { few = c .before .before .before .before .before .before .pre .0 .few .units; rules = rw (c .before .before .before .before .units-at .ensures) (c .before .before .before .before .before .before .pre .1 .0 .units); keep = rw (c .before .before .before .before .units-at .ensures) (keeps-first (c .before .before .before .before .before .before .pre .1 .1 .0 .units)) }, (c .before .before .before .before .before .before .pre .1 .1 .0 .constraints, rw (c .before .before .before .before .units-at .ensures) (c .before .before .before .before .before .before .pre .1 .1 .1 .names))))
+factors-requires c κs =
+    let units = c .before .before .before .before in
+    let start = units .before .before .pre in
+    let from = units .units-at .ensures in (
+      (constraints-room _ _ (start .0), units-room _ _ (start .0) _ from),
+      (
+        record { few = start .0 .few .units; rules = rw from (start .1 .0 .units); keep = rw from (keeps-first (start .1 .1 .0 .units)) },
+        (start .1 .1 .0 .constraints, rw from (start .1 .1 .1 .names)),
+      ),
+    )
 
 at-record-requires : tie.Need-at-record-requires
-at-record-requires c κs = (omega arith, λ i f. omega (arith, bad-within _ _ f (c .factors .ensures), c .before .before .before .before .before .before .before .pre .0 .few .constraints))
+at-record-requires c κs =
+    let start = c .before .before .before .before .before .before .before .pre in
+    (omega arith, λ i f. omega (arith, bad-within _ _ f (c .factors .ensures), start .0 .few .constraints))
 
 returns : tie.Need-returns
-returns c = check8-is (c .before .before .before .before .before .before .before .before .args .book .now) _ (c .before .before .before .before .before .before .units-at .ensures) (c .before .factors .ensures) (c .at-record .ensures)
+returns c =
+    let units = c .before .before .before .before .before .before in
+    check8-is (units .before .before .args .book .now) _ (units .units-at .ensures) (c .before .factors .ensures) (c .at-record .ensures)
 
 pub factor-sums-spec : {M : Type 1} → statement M
 factor-sums-spec =

@@ -53,7 +53,22 @@ earlier-requires-4 : tie.Need-earlier-requires-4
 earlier-requires-4 c κs = search needs
 
 returns : tie.Need-returns
-returns c = check5-is (c .before .before .before .before .before .before .before .before .before .before .before .before .before .before .before .before .before .args .book .now) _ (c .before .before .before .before .before .before .before .before .before .before .before .before .before .before .before .section .ensures) (c .before .before .before .before .before .before .before .before .before .before .before .before .before .section2 .ensures) (c .before .before .before .before .before .before .before .before .before .before .before .before .units-at .ensures) (c .before .before .before .before .before .before .before .before .before .before .section3 .ensures) (c .before .before .before .before .before .before .before .before .before .energies-at .ensures) (c .before .before .before .before .before .before .before .section4 .ensures) (c .before .before .before .before .before .before .contracts-at .ensures) (c .before .before .before .before .section5 .ensures) (c .before .before .before .earlier .ensures) (c .before .before .earlier2 .ensures) (c .before .earlier3 .ensures) (c .earlier4 .ensures)
+returns c =
+    let contracts = c .before .before .before .before in
+    let energies = contracts .before .before .before in
+    let units = energies .before .before .before in
+    let constraints = units .before .before .before in
+    let regions = constraints .before .before in
+    check5-is (regions .before .before .args .book .now) _
+    (regions .section .ensures)
+    (constraints .section2 .ensures)
+    (units .before .before .units-at .ensures)
+    (units .section3 .ensures)
+    (energies .before .before .energies-at .ensures)
+    (energies .section4 .ensures)
+    (contracts .before .before .contracts-at .ensures)
+    (contracts .section5 .ensures)
+    (c .before .before .before .earlier .ensures) (c .before .before .earlier2 .ensures) (c .before .earlier3 .ensures) (c .earlier4 .ensures)
 
 pub fields-spec : {M : Type 1} → statement M
 fields-spec =

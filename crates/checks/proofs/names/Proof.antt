@@ -35,13 +35,22 @@ cast-names-2 : tie.Need-cast-names-2
 cast-names-2 c = search needs
 
 names-requires : tie.Need-names-requires
-names-requires c κs = ((constraints-room _ _ (c .before .before .before .before .before .before .pre .0), units-room _ _ (c .before .before .before .before .before .before .pre .0) _ (c .before .before .before .before .units-at .ensures)), (c .before .before .before .before .before .before .pre .1 .constraints, rw (c .before .before .before .before .units-at .ensures) (keeps-first (c .before .before .before .before .before .before .pre .1 .units))))
+names-requires c κs =
+    let units = c .before .before .before .before in
+    let start = units .before .before .pre in
+    let from = units .units-at .ensures in
+    ((constraints-room _ _ (start .0), units-room _ _ (start .0) _ from), (start .1 .constraints, rw from (keeps-first (start .1 .units))))
 
 at-record-requires : tie.Need-at-record-requires
-at-record-requires c κs = (omega (arith, (c .before .before .before .before .before .units-at .ensures), c .before .before .before .before .before .before .before .pre .0 .few .constraints), λ i f. omega (arith, bad-within _ _ f (c .names .ensures), c .before .before .before .before .before .before .before .pre .0 .few .units))
+at-record-requires c κs =
+    let units = c .before .before .before .before .before in
+    let few = units .before .before .pre .0 .few in
+    (omega (arith, units .units-at .ensures, few .constraints), λ i f. omega (arith, bad-within _ _ f (c .names .ensures), few .units))
 
 returns : tie.Need-returns
-returns c = check7-is (c .before .before .before .before .before .before .before .before .args .book .now) _ (c .before .before .before .before .before .before .units-at .ensures) (c .before .names .ensures) (c .at-record .ensures)
+returns c =
+    let units = c .before .before .before .before .before .before in
+    check7-is (units .before .before .args .book .now) _ (units .units-at .ensures) (c .before .names .ensures) (c .at-record .ensures)
 
 pub names-spec : {M : Type 1} → statement M
 names-spec =

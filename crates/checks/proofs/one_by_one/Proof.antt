@@ -1,7 +1,6 @@
 -- `checks::one_by_one` meets its contract. Each check decides, or leaves the word and what it has shown to the next. Assumes nothing.
 use borrow.Author.Needs.{needs}
-use Rattle.sections.proofs.Refusal.{verdict-stop, verdict-go}
-use Rattle.book.proofs.Passed.{verdict-only}
+use Rattle.sections.proofs.Refusal.{verdict-stop, verdict-go, verdict-last}
 use Rattle.book.proofs.Steps.{fields-of, ordered-of, named-of}
 use Rattle.checks.proofs.one_by_one.Statement.{statement}
 use Rattle.checks.proofs.one_by_one.Tie as tie
@@ -94,7 +93,7 @@ returns-5 c =
     (verdict-go _ (s6 .enum-told2 .given .1) (s6 .before .before .order .ensures)
     (verdict-go _ (s7 .enum-told3 .given .1) (s7 .before .before .names .ensures)
     (verdict-go _ (s8 .enum-told4 .given .1) (s8 .before .before .factor-sums .ensures)
-    (verdict-only (c .region-sums .ensures)))))
+    (verdict-last (c .region-sums .ensures)))))
 
 pub one-by-one-spec : {M : Type 1} → statement M
 one-by-one-spec =

@@ -47,7 +47,20 @@ earlier-requires-3 : tie.Need-earlier-requires-3
 earlier-requires-3 c κs = search needs
 
 returns : tie.Need-returns
-returns c = check6-is (c .before .before .before .before .before .before .before .before .before .before .before .before .before .before .before .args .book .now) _ (c .before .before .before .before .before .before .before .before .before .before .before .before .section .ensures) (c .before .before .before .before .before .before .before .before .before .before .before .units-at .ensures) (c .before .before .before .before .before .before .before .before .before .section2 .ensures) (c .before .before .before .before .before .before .before .before .energies-at .ensures) (c .before .before .before .before .before .before .section3 .ensures) (c .before .before .before .before .before .contracts-at .ensures) (c .before .before .before .section4 .ensures) (c .before .before .earlier .ensures) (c .before .earlier2 .ensures) (c .earlier3 .ensures)
+returns c =
+    let contracts = c .before .before .before in
+    let energies = contracts .before .before .before in
+    let units = energies .before .before .before in
+    let constraints = units .before .before .before in
+    check6-is (constraints .before .before .before .args .book .now) _
+    (constraints .section .ensures)
+    (units .before .before .units-at .ensures)
+    (units .section2 .ensures)
+    (energies .before .before .energies-at .ensures)
+    (energies .section3 .ensures)
+    (contracts .before .before .contracts-at .ensures)
+    (contracts .section4 .ensures)
+    (c .before .before .earlier .ensures) (c .before .earlier2 .ensures) (c .earlier3 .ensures)
 
 pub order-spec : {M : Type 1} → statement M
 order-spec =

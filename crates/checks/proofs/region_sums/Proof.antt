@@ -32,13 +32,19 @@ cast-entries : tie.Need-cast-entries
 cast-entries c = search needs
 
 entries-requires : tie.Need-entries-requires
-entries-requires c κs = ((entries-room _ _ (c .before .before .before .before .before .pre .0), (energies-room _ _ (c .before .before .before .before .before .pre .0) _ (c .before .before .before .energies-at .ensures), c .before .before .before .before .before .pre .0 .few .energies)), rw (c .before .before .before .energies-at .ensures) (c .before .before .before .before .before .pre .1 .energies))
+entries-requires c κs =
+    let energies = c .before .before .before in
+    let start = energies .before .before .pre in
+    let from = energies .energies-at .ensures in
+    ((entries-room _ _ (start .0), (energies-room _ _ (start .0) _ from, start .0 .few .energies)), rw from (start .1 .energies))
 
 at-record-requires : tie.Need-at-record-requires
 at-record-requires c κs = (omega arith, λ i f. omega (arith, bad-within _ _ f (c .entries .ensures)))
 
 returns : tie.Need-returns
-returns c = check9-is (c .before .before .before .before .before .before .before .args .book .now) _ (c .before .before .before .before .before .energies-at .ensures) (c .before .entries .ensures) (c .at-record .ensures)
+returns c =
+    let energies = c .before .before .before .before .before in
+    check9-is (energies .before .before .args .book .now) _ (energies .energies-at .ensures) (c .before .entries .ensures) (c .at-record .ensures)
 
 pub region-sums-spec : {M : Type 1} → statement M
 region-sums-spec =

@@ -58,16 +58,30 @@ contracts-requires : tie.Need-contracts-requires
 contracts-requires c κs = search needs
 
 at-record-requires : tie.Need-at-record-requires
-at-record-requires c κs = (omega arith, λ i f. omega (arith, bad-within _ _ f (c .before .before .before .before .constraints .ensures), c .before .before .before .before .before .before .before .before .before .before .pre .0 .few .constraints))
+at-record-requires c κs =
+    let shared = c .before .before .before .before in
+    let start = shared .before .before .before .before .before .before .pre in
+    (omega arith, λ i f. omega (arith, bad-within _ _ f (shared .constraints .ensures), start .0 .few .constraints))
 
 at-record-requires-2 : tie.Need-at-record-requires-2
-at-record-requires-2 c κs = (omega (arith, (c .before .before .before .before .before .before .before .before .before .contracts-at .ensures), c .before .before .before .before .before .before .before .before .before .before .before .pre .0 .few), λ i f. omega (arith, bad-within _ _ f (c .before .contracts .ensures), c .before .before .before .before .before .before .before .before .before .before .before .pre .0 .few .contracts))
+at-record-requires-2 c κs =
+    let contracts = c .before .before .before .before .before .before .before .before .before in
+    let few = contracts .before .before .pre .0 .few in
+    (omega (arith, contracts .contracts-at .ensures, few), λ i f. omega (arith, bad-within _ _ f (c .before .contracts .ensures), few .contracts))
 
 earlier-requires : tie.Need-earlier-requires
 earlier-requires c κs = search needs
 
 returns : tie.Need-returns
-returns c = check10-is (c .before .before .before .before .before .before .before .before .before .before .before .before .before .args .book .now) _ (c .before .before .before .before .before .before .before .before .before .before .before .contracts-at .ensures) (c .before .before .before .before .before .before .before .constraints .ensures) (c .before .before .before .contracts .ensures) (c .before .before .at-record .ensures) (c .before .at-record2 .ensures) (c .earlier .ensures)
+returns c =
+    let paid = c .before .before .before in
+    let shared = paid .before .before .before .before in
+    let contracts = shared .before .before .before .before in
+    check10-is (contracts .before .before .args .book .now) _
+    (contracts .contracts-at .ensures)
+    (shared .constraints .ensures)
+    (paid .contracts .ensures)
+    (c .before .before .at-record .ensures) (c .before .at-record2 .ensures) (c .earlier .ensures)
 
 pub zero-totals-spec : {M : Type 1} → statement M
 zero-totals-spec =

@@ -41,7 +41,22 @@ earlier-requires-4 : tie.Need-earlier-requires-4
 earlier-requires-4 c κs = search needs
 
 returns : tie.Need-returns
-returns c = short-is (c .before .before .before .before .before .before .before .before .before .before .before .before .before .args .book .now) (c .before .before .before .before .before .before .before .before .before .before .before .before .before .args .h) (c .before .before .before .before .before .before .before .before .section .ensures) (c .before .before .before .before .before .before .before .section2 .ensures) (c .before .before .before .before .before .before .before .before .before .before .before .contracts-at .ensures) (c .before .before .before .before .before .before .section3 .ensures) (c .before .before .before .before .before .section4 .ensures) (c .before .before .before .before .section5 .ensures) (c .before .before .before .earlier .ensures) (c .before .before .earlier2 .ensures) (c .before .earlier3 .ensures) (c .earlier4 .ensures)
+returns c =
+    let contract-ids = c .before .before .before .before in
+    let ids = contract-ids .before in
+    let contracts = ids .before in
+    let constraints = contracts .before in
+    let regions = constraints .before in
+    let from = regions .before .before .before in
+    let start = from .before .before in
+    short-is (start .args .book .now) (start .args .h)
+    (regions .section .ensures)
+    (constraints .section2 .ensures)
+    (from .contracts-at .ensures)
+    (contracts .section3 .ensures)
+    (ids .section4 .ensures)
+    (contract-ids .section5 .ensures)
+    (c .before .before .before .earlier .ensures) (c .before .before .earlier2 .ensures) (c .before .earlier3 .ensures) (c .earlier4 .ensures)
 
 pub short-sections-spec : {M : Type 1} → statement M
 short-sections-spec =

@@ -20,19 +20,28 @@ in-range-requires : tie.Need-in-range-requires
 in-range-requires c κs = search needs
 
 returns-3 : tie.Need-returns-3
-returns-3 c = stop3 _ (c .before .before .before .before .before .if1 .left) (c .before .before .before .before .is-marked .ensures) (c .before .before .before .if2 .left) (c .before .before .header-of .ensures) (c .before .in-range .ensures) (c .if3 .taken)
+returns-3 c =
+    let marked = c .before .before .before in
+    stop3 _ (marked .before .before .if1 .left) (marked .before .is-marked .ensures) (marked .if2 .left) (c .before .before .header-of .ensures) (c .before .in-range .ensures) (c .if3 .taken)
 
 whole-length-requires : tie.Need-whole-length-requires
 whole-length-requires c κs = search needs
 
 returns-4 : tie.Need-returns-4
-returns-4 c = stop4 _ (c .before .before .before .before .before .before .before .if1 .left) (c .before .before .before .before .before .before .is-marked .ensures) (c .before .before .before .before .before .if2 .left) (c .before .before .before .before .header-of .ensures) (c .before .before .before .in-range .ensures) (c .before .before .if3 .left) (c .before .whole-length .ensures) (c .if4 .taken)
+returns-4 c =
+    let ranged = c .before .before in
+    let marked = ranged .before .before .before in
+    stop4 _ (marked .before .before .if1 .left) (marked .before .is-marked .ensures) (marked .if2 .left) (ranged .before .before .header-of .ensures) (ranged .before .in-range .ensures) (ranged .if3 .left) (c .before .whole-length .ensures) (c .if4 .taken)
 
 records-requires : tie.Need-records-requires
 records-requires c κs = laid-of _ _ (c .before .before .before .in-range .ensures) (c .before .before .if3 .left) (c .before .whole-length .ensures) (c .if4 .left)
 
 returns-5 : tie.Need-returns-5
-returns-5 c = go5 _ (c .before .before .before .before .before .before .before .before .if1 .left) (c .before .before .before .before .before .before .before .is-marked .ensures) (c .before .before .before .before .before .before .if2 .left) (c .before .before .before .before .before .header-of .ensures) (c .before .before .before .before .in-range .ensures) (c .before .before .before .if3 .left) (c .before .before .whole-length .ensures) (c .before .if4 .left) (c .records .ensures)
+returns-5 c =
+    let long = c .before in
+    let ranged = long .before .before in
+    let marked = ranged .before .before .before in
+    go5 _ (marked .before .before .if1 .left) (marked .before .is-marked .ensures) (marked .if2 .left) (ranged .before .before .header-of .ensures) (ranged .before .in-range .ensures) (ranged .if3 .left) (long .before .whole-length .ensures) (long .if4 .left) (c .records .ensures)
 
 pub soundness-spec : {M : Type 1} → statement M
 soundness-spec =
