@@ -6,7 +6,7 @@ use Rattle.ground.proofs.Every.{every}
 use Rattle.sections.specs.declared.Verdict.{Verdict}
 use Rattle.sections.specs.declared.Verdict.the-variants.{Accepted}
 use Rattle.sections.proofs.Refusal.{record-held, first-held}
-use Rattle.records.proofs.Rule.{entry-rules, constraint-rules, unit-rules, energy-rules, contract-rules, constraints-rise, units-rise, energies-rise, contracts-rise}
+use Rattle.rules.proofs.Rule.{entry-rules, constraint-rules, unit-rules, energy-rules, contract-rules, constraints-rise, units-rise, energies-rise, contracts-rise}
 use Rattle.factors.proofs.Said.{owner-of, names-of}
 use Rattle.book.specs.declared.header.Header.{Header}
 use Rattle.book.specs.Header.{rangeTests, inRange}

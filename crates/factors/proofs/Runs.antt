@@ -16,7 +16,7 @@ use Rattle.factors.specs.Factors.{factorsAt, sumOver, noFactor}
 use Rattle.factors.specs.Inner.Facts.{sumsOk}
 use Rattle.factors.specs.Inner.Runs.{Factor, plus, minus, default, ofRow, ofSums, FactorsAdded, RunOf, Walked}
 use Rattle.factors.specs.declared.sums.Sums.{Sums}
-use Rattle.records.specs.Inner.Facts.{UnitRule}
+use Rattle.rules.specs.Inner.Facts.{UnitRule}
 
 -- ---- the three factors
 

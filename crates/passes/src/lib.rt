@@ -9,8 +9,8 @@ ghost use Rattle.passes.specs.Inner.Passes.{shortChecks, accepts};
 use book::header::Header;
 use quick::energies;
 use quick::units;
-use records::section;
-use records::section::Check;
+use rules::section;
+use rules::section::Check;
 use sections::Verdict;
 
 // 5 and 6 of the short sections: region entries, constraints, contracts.
