@@ -5,7 +5,7 @@ use mathlib.Core.Path.{_≡_, refl, sym, _∙_}
 use mathlib.Core.Bool.{Bool, true, false, cond, not, _&&_}
 use native.Mathlib.Omega.{arith}
 use lib.Dec.{eqb}
-use Rattle.records.specs.Inner.Facts.{EntryRule}
+use Rattle.rules.specs.Inner.Facts.{EntryRule}
 use Rattle.records.specs.declared.rows.EnergyRow.{EnergyRow}
 use Rattle.totals.specs.Inner.Totals.{Five, entryOf}
 use Rattle.totals.proofs.Turns.{totals-once}

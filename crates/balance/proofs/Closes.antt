@@ -11,15 +11,15 @@ use borrow.Author.Tests.{eqb-true, eqb-false}
 use lib.Dec.{eqb, ltb}
 use lib.IntN.{pos, natAbs, _+ℤ_}
 use lib.ListN.{length}
-use Rattle.ground.specs.Round.{roundN}
-use Rattle.ground.specs.Sign.{less}
-use Rattle.ground.specs.Sizes.{sizeBelow, aboveOf, belowOf}
-use Rattle.ground.proofs.Rounding.{round-zero}
+use Rattle.numbers.specs.Round.{roundN}
+use Rattle.numbers.specs.Sign.{less}
+use Rattle.numbers.specs.Sizes.{sizeBelow, aboveOf, belowOf}
+use Rattle.numbers.proofs.Rounding.{round-zero}
 use Rattle.sections.specs.Total.{total, keyed}
 use Rattle.sections.specs.declared.Verdict.the-variants.{Accepted}
 use Rattle.sections.proofs.Total.{total-zero}
 use Rattle.records.specs.Rows.{constraintRow, unitRow}
-use Rattle.records.specs.Rules.{factorOf}
+use Rattle.rules.specs.Rules.{factorOf}
 use Rattle.records.specs.declared.rows.Constraint.{Constraint}
 use Rattle.records.specs.declared.rows.UnitRow.{UnitRow}
 use Rattle.factors.specs.Naming.{keyOf}

@@ -11,13 +11,13 @@ use lib.Dec.{eqb}
 use lib.ListN.{getD, set, replicate, length-set, length-replicate}
 use lib.Seq.{getD-set-same, getD-set-other}
 use Rattle.ground.specs.Bytes.{partFrom}
-use Rattle.ground.specs.Round.{roundN}
-use Rattle.ground.proofs.Rounding.{round-share}
+use Rattle.numbers.specs.Round.{roundN}
+use Rattle.numbers.proofs.Rounding.{round-share}
 use Rattle.sections.specs.Total.{total, keyed, totalOf}
 use Rattle.sections.proofs.Total.{total-more, total-bound, total-zero, total-same, total-swap, keyed-hit, keyed-miss, keyed-plus, total-five, total-has, total-only}
 use Rattle.records.specs.Rows.{energyRow}
 use Rattle.market.specs.Kinds.{bitSet}
-use Rattle.records.specs.Rules.{factorOf}
+use Rattle.rules.specs.Rules.{factorOf}
 use Rattle.records.specs.declared.rows.Entry.{Entry}
 use Rattle.records.specs.declared.rows.Contract.{Contract}
 use Rattle.records.specs.declared.rows.EnergyRow.{EnergyRow}

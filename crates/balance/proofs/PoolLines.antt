@@ -8,12 +8,12 @@ use native.Mathlib.Omega.{arith}
 use native.Mathlib.Nat.{zero-mul}
 use borrow.Author.Tests.{eqb-true, eq-eqb, ne-eqb}
 use lib.Dec.{eqb}
-use Rattle.ground.specs.Round.{roundN}
-use Rattle.ground.specs.Sign.{less}
-use Rattle.ground.proofs.Rounding.{round-zero}
+use Rattle.numbers.specs.Round.{roundN}
+use Rattle.numbers.specs.Sign.{less}
+use Rattle.numbers.proofs.Rounding.{round-zero}
 use Rattle.sections.specs.Total.{total, keyed}
 use Rattle.market.specs.Kinds.{raises}
-use Rattle.records.specs.Rules.{factorOf}
+use Rattle.rules.specs.Rules.{factorOf}
 use Rattle.records.specs.declared.rows.Entry.{Entry}
 use Rattle.records.specs.declared.rows.Constraint.{Constraint}
 use Rattle.records.specs.declared.rows.UnitRow.{UnitRow}

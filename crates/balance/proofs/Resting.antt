@@ -7,9 +7,9 @@ use native.Mathlib.Omega.{arith}
 use lib.IntN.{ℤ, pos}
 use lib.ListN.{length}
 use Rattle.ground.specs.Bytes.{partFrom}
-use Rattle.ground.specs.Sign.{less}
+use Rattle.numbers.specs.Sign.{less}
 use Rattle.records.specs.Rows.{unitRow, energyRow}
-use Rattle.records.specs.Inner.Facts.{ConstraintRule}
+use Rattle.rules.specs.Inner.Facts.{ConstraintRule}
 use Rattle.market.specs.Kinds.{raises, regulates}
 use Rattle.records.specs.declared.rows.Constraint.{Constraint}
 use Rattle.records.specs.declared.rows.Contract.{Contract}

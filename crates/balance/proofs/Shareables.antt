@@ -5,7 +5,7 @@ use mathlib.Core.Bool.{true, cond}
 use native.Mathlib.Omega.{arith}
 use Rattle.sections.specs.Total.{totalOf}
 use Rattle.sections.proofs.Total.{total-bound}
-use Rattle.records.specs.Rules.{factorOf}
+use Rattle.rules.specs.Rules.{factorOf}
 use Rattle.totals.specs.Sums.{regionOf}
 use Rattle.totals.specs.Divisors.{countedIn}
 use Rattle.totals.proofs.Turns.{share-small}

@@ -9,7 +9,7 @@ use lib.Dec.{T, leb, leb→le}
 use mir.Syntax.{w64}
 use mir.Val.{Fits}
 use Rattle.ground.specs.Bytes.{byteAt, u24At, u32At, u64At}
-use Rattle.ground.specs.Sizes.{sizeBelow, aboveOf, belowOf}
+use Rattle.numbers.specs.Sizes.{sizeBelow, aboveOf, belowOf}
 use Rattle.records.specs.Rows.{entryRow, constraintRow, unitRow, energyRow, contractRow}
 use Rattle.records.specs.declared.rows.Entry.{Entry}
 use Rattle.records.specs.declared.rows.Constraint.{Constraint}

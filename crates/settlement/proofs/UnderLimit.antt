@@ -9,7 +9,7 @@ use Rattle.ground.specs.Bytes.{partFrom}
 use Rattle.sections.specs.Search.{some}
 use Rattle.sections.proofs.Search.{some-none}
 use Rattle.records.specs.Rows.{constraintRow, contractRow}
-use Rattle.records.specs.Inner.Facts.{ConstraintRule}
+use Rattle.rules.specs.Inner.Facts.{ConstraintRule}
 use Rattle.records.specs.declared.rows.Constraint.{Constraint}
 use Rattle.totals.specs.declared.entries.Totals.{Totals}
 use Rattle.amounts.specs.Pools.{poolsOf}

@@ -7,11 +7,12 @@ use native.Mathlib.Omega.{arith}
 use borrow.Author.Tests.{le-leb, ltb-false}
 use lib.Dec.{eqb, leb}
 use lib.IntN.{ℤ, natAbs}
-use Rattle.ground.specs.Round.{roundN}
-use Rattle.ground.specs.Sign.{signed, negative}
+use Rattle.sections.proofs.Cases.{five}
+use Rattle.numbers.specs.Round.{roundN}
+use Rattle.numbers.specs.Sign.{signed, negative}
 use Rattle.ground.proofs.Every.{all}
 use Rattle.market.specs.Kinds.{raises}
-use Rattle.records.specs.Inner.Facts.{ConstraintRule}
+use Rattle.rules.specs.Inner.Facts.{ConstraintRule}
 use Rattle.records.specs.declared.rows.Constraint.{Constraint}
 use Rattle.records.specs.declared.rows.UnitRow.{UnitRow}
 use Rattle.amounts.specs.Shares.{byFactor, byEnergy}
@@ -20,7 +21,7 @@ use Rattle.amounts.specs.declared.pools.Residual.{Residual}
 use Rattle.amounts.specs.declared.pools.Halves.{Halves}
 use Rattle.amounts.proofs.Signed.{factor-below, charge-shared}
 use Rattle.statement.specs.declared.Line.{Line}
-use Rattle.reading.specs.Reading.{regionsOk, unitFieldOk, amountOk}
+use Rattle.parsing.specs.Parsing.{regionsOk, unitFieldOk, amountOk}
 use Rattle.lines.specs.Lines.{sharedLine, contingencyLine, fppLine, usedLine, unusedLine, fppRest, usedRest, unusedRest, aceLine, asoeLine}
 use Rattle.trips.proofs.Due.{Due}
 
@@ -36,15 +37,7 @@ or-true false = refl
 
 -- "(one bit for parts 9 and 10)"
 bit-ok : (part g : ℕ) → g < 5 → regionsOk part (2 ^ g) ≡ true
-bit-ok part zero l = or-true (leb part 8)
-bit-ok part (suc zero) l = or-true (leb part 8)
-bit-ok part (suc (suc zero)) l = or-true (leb part 8)
-bit-ok part (suc (suc (suc zero))) l = or-true (leb part 8)
-bit-ok part (suc (suc (suc (suc zero)))) l = or-true (leb part 8)
-bit-ok part (suc (suc (suc (suc (suc g))))) l = absurd (none l)
-  where
-    none : suc (suc (suc (suc (suc g)))) < 5 → ⊥
-    none l = omega arith
+bit-ok part g l = five (λ g. regionsOk part (2 ^ g) ≡ true) (or-true (leb part 8)) (or-true (leb part 8)) (or-true (leb part 8)) (or-true (leb part 8)) (or-true (leb part 8)) g l
 
 -- ---- amounts
 

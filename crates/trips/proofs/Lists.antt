@@ -7,8 +7,8 @@ use mathlib.Core.List.{List, [], _∷_}
 use lib.Dec.{eqb}
 use Rattle.ground.specs.Inner.Each.{Each}
 use Rattle.ground.proofs.Each.{each-choice}
-use Rattle.records.specs.Rules.{factorOf}
-use Rattle.records.specs.Inner.Facts.{ConstraintRule}
+use Rattle.rules.specs.Rules.{factorOf}
+use Rattle.rules.specs.Inner.Facts.{ConstraintRule}
 use Rattle.records.specs.declared.rows.Constraint.{Constraint}
 use Rattle.records.specs.declared.rows.UnitRow.{UnitRow}
 use Rattle.totals.specs.declared.entries.Totals.{Totals}
@@ -18,7 +18,7 @@ use Rattle.amounts.specs.Pools.{halvesOf}
 use Rattle.amounts.specs.declared.pools.Pools.{Pools}
 use Rattle.amounts.specs.declared.pools.Residual.{Residual}
 use Rattle.statement.specs.declared.Line.{Line}
-use Rattle.reading.specs.Inner.Writable.{WritableLine}
+use Rattle.parsing.specs.Inner.Writable.{WritableLine}
 use Rattle.lines.specs.Lines.{unitLines, restLines}
 use Rattle.lines.specs.Limit.{passesLimit, anyOver}
 use Rattle.walk.specs.Inner.Walks.{bookLines}
