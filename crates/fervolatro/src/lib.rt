@@ -40,7 +40,7 @@ fn answer(v: Verdict) -> VerdictAnswer
 pub extern "C" fn fervolatro_check(book: &[u8]) -> VerdictAnswer
     ensures { λ r. ⌜ r ≡ verdictAnswer (verdict (now (book .entry))) ⌝ }
 {
-    answer(book::check(book))
+    answer(verdict::check(book))
 }
 
 // `fervolatro_written`: refusal 0 is success, and then length is how many bytes were written.

@@ -49,12 +49,12 @@ module _ (B : Book) (p : Promise B) (n : Narrow B) (own : Totals) where
   kinds-due : EachKind Due B own
   kinds-due =
       record {
-        contingency = λ j l. contingency-due (B .constraint j) (p .fields .constraints j l) (n .constraints j) _ _;
-        units = λ j l u m. unit-due (B .constraint j) (p .fields .constraints j l) (n .constraints j) _ (B .unit u) (p .fields .units u m .unit) (n .units u);
-        rest = λ j l. rest-due (B .constraint j) (p .fields .constraints j l) (n .constraints j) _ _ _;
+        contingency = λ j l. contingency-due (B .constraint j) (p .sound .fields .constraints j l) (n .constraints j) _ _;
+        units = λ j l u m. unit-due (B .constraint j) (p .sound .fields .constraints j l) (n .constraints j) _ (B .unit u) (p .sound .fields .units u m .unit) (n .units u);
+        rest = λ j l. rest-due (B .constraint j) (p .sound .fields .constraints j l) (n .constraints j) _ _ _;
         region = λ k l g m d. (
-          ace-due (B .contract k .id) (p .fields .contracts k l .id) (n .contracts k) g m (halvesOf (B .contract k .payment) (factorOf (B .contract k .factors) g)) _ _,
-          (asoe-due (B .contract k .id) (p .fields .contracts k l .id) (n .contracts k) g m (halvesOf (B .contract k .payment) (factorOf (B .contract k .factors) g)) _ _, tt),
+          ace-due (B .contract k .id) (p .sound .fields .contracts k l .id) (n .contracts k) g m (halvesOf (B .contract k .payment) (factorOf (B .contract k .factors) g)) _ _,
+          (asoe-due (B .contract k .id) (p .sound .fields .contracts k l .id) (n .contracts k) g m (halvesOf (B .contract k .payment) (factorOf (B .contract k .factors) g)) _ _, tt),
         );
       }
 

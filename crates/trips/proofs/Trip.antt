@@ -32,7 +32,7 @@ heading-written B p account n low small few =
     record {
       ok =
           all (isPeriod (B .header .interval) (B .header .date) (B .header .run) ∷ leb n 2152 ∷ leb 1 account ∷ [])
-          (p .period, (le-leb n 2152 few, (le-leb 1 account low, tt)));
+          (p .sound .period, (le-leb n 2152 few, (le-leb 1 account low, tt)));
       account = small;
       count = refl;
     }
