@@ -7,8 +7,8 @@ ghost use Rattle.rules.specs.Inner.Facts.{ConstraintRule};
 ghost use Rattle.amounts.specs.Pools.{poolsOf, residualPools, halvesOf};
 ghost use Rattle.amounts.specs.Inner.Bounds.{SmallPools};
 use crate::shares;
-use numbers::round;
 use market::Mode;
+use numbers::round;
 use records::rows::Constraint;
 
 // The three pools of a regulation constraint.

@@ -13,6 +13,7 @@ use Rattle.sections.proofs.First.{first-each}
 use Rattle.sections.proofs.Refusal.{record-held}
 use Rattle.sections.specs.declared.Verdict.{Verdict}
 use Rattle.sections.specs.declared.Verdict.the-variants.{Accepted, Refused}
+use Rattle.sections.proofs.Cases.{zero-one}
 use Rattle.book.specs.Book.{bookOf}
 use Rattle.book.proofs.Passed.{records-passed}
 use Rattle.book.specs.Table.{verdict, check8, check9}
@@ -57,7 +58,7 @@ use Rattle.demands.proofs.Demand1.{every-input-is-answered}
 -- ---- a call that is not refused
 
 never : {A : Type 0} → _≡_ {A = Bool} false true → A
-never e = absurd (let z : _≡_ {A = ℕ} 0 1 = cc in omega arith)
+never e = absurd (zero-one cc)
 
 -- what it gives
 record Given (o : Outcome) (l : List ℕ) (r : WrittenAnswer) (x : List ℕ) : Type 0 where
@@ -164,7 +165,7 @@ rewritten-is s bytes xs e = by (isStatement s) refl e
   where
     by : (t : Bool) → isStatement s ≡ t → cond t (gives (statementBytes (headingAt s) (linesIn s (headingAt s .lines)))) (refuses 14 0) ≡ gives xs → xs ≡ s
     by true t d = let same : statementBytes (headingAt s) (linesIn s (headingAt s .lines)) ≡ xs = cc in sym same ∙ read-and-written s bytes t
-    by false t d = absurd (let z : _≡_ {A = ℕ} 0 1 = cc in omega arith)
+    by false t d = absurd (zero-one cc)
 
 -- ---- all lines at once
 
@@ -185,7 +186,7 @@ module _ (s : List ℕ) (bytes : AreBytes s) where
     where
       by : (t : Bool) → isStatement s ≡ t → cond t (gives (allFields (linesIn s (headingAt s .lines)))) (refuses 14 0) ≡ gives xs → Unpacked xs
       by true t d = record { holds = t; all = cc }
-      by false t d = absurd (let z : _≡_ {A = ℕ} 0 1 = cc in omega arith)
+      by false t d = absurd (zero-one cc)
 
   module _ (q : isStatement s ≡ true) where
     counted : headingAnswer (headingRead s) .lines ≡ headingAt s .lines

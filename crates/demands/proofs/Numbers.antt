@@ -11,6 +11,7 @@ use Rattle.sections.specs.declared.Checked.{Checked}
 use Rattle.sections.specs.declared.Checked.the-variants.{Good, Bad}
 use Rattle.sections.specs.declared.Verdict.{Verdict}
 use Rattle.sections.specs.declared.Verdict.the-variants.{Accepted, Refused}
+use Rattle.sections.proofs.Cases.{zero-one}
 use Rattle.book.specs.Book.{bookOf}
 use Rattle.book.specs.Table.{soundness, verdict, check1, check2, check3, check4, check5, check6, check7, check8, check9, check10}
 use Rattle.accounts.specs.Account.{publicOf, rowsOfAccount, unknown}
@@ -30,14 +31,14 @@ abbrev pub Within : List ℕ → Outcome → Type 0
 Within numbers o = (number place : ℕ) → o ≡ refuses number place → OneOf numbers number
 
 not-refused : (number place : ℕ) → Accepted ≡ Refused number place → ⊥
-not-refused number place e = let z : _≡_ {A = ℕ} 0 1 = cc in omega arith
+not-refused number place e = zero-one cc
 
 pub or-true : (a b : Bool) → b ≡ true → (a || b) ≡ true
 or-true true b e = refl
 or-true false b e = e
 
 not-given : (xs : List ℕ) (number place : ℕ) → gives xs ≡ refuses number place → ⊥
-not-given xs number place e = let z : _≡_ {A = ℕ} 0 1 = cc in omega arith
+not-given xs number place e = zero-one cc
 
 -- ---- the table
 

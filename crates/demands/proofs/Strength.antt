@@ -7,6 +7,7 @@ use native.Mathlib.Omega.{arith}
 use borrow.Author.Tests.{eqb-true}
 use lib.Dec.{eqb}
 use lib.IntN.{ℤ, natAbs, _+ℤ_}
+use Rattle.sections.proofs.Cases.{zero-one}
 use Rattle.ground.specs.Bytes.{i64At}
 use Rattle.ground.specs.Inner.Each.{Each}
 use Rattle.parties.specs.Once.{has}
@@ -27,7 +28,7 @@ use Rattle.demands.proofs.Example.{bookA, bookB, two-books-agree}
 -- what holds of each number of a list holds of one of them
 one-of : (P : ℕ → Type 0) (l : List ℕ) → Each P l → (n : ℕ) → OneOf l n → P n
 unfolding has
-one-of P [] h n e = absurd (let z : _≡_ {A = ℕ} 0 1 = cc in omega arith)
+one-of P [] h n e = absurd (zero-one cc)
 one-of P (x ∷ l) h n e = by (eqb x n) refl e (one-of P l (h .1) n)
   where
     by : (t : Bool) → eqb x n ≡ t → (t || has n l) ≡ true → (OneOf l n → P n) → P n

@@ -2,6 +2,4 @@
 pub mod Every
 pub mod Le
 pub mod Put
-pub mod Round
-pub mod Sizes
 pub mod Each

@@ -9,6 +9,7 @@ use lib.IntN.{ℤ, pos, negℤ, natAbs}
 use mir.Syntax.{w32, w64}
 use mir.Val.{toZ}
 use mir.Facts.{toZ-pos}
+use Rattle.sections.proofs.Cases.{five}
 use Rattle.ground.specs.Bytes.{u32At, u64At, partFrom, AreBytes}
 use Rattle.numbers.specs.Sizes.{sizeBelow, aboveOf, belowOf}
 use Rattle.numbers.specs.Inner.Sizes.{Sides}
@@ -138,18 +139,7 @@ module _ (s : List ℕ) (b : AreBytes s) where
 
   contract-sized : (i : ℕ) → ContractRule (contractRow s i) → SizedContract (contractRow s i) (contractAt s i)
   unfolding contractRow contractAt
-  contract-sized i r = record { id = refl; payment = money-at s b (i * 36 + 8) (omega (arith, r .payment)); factor = each }
-    where
-      each : (g : ℕ) → g < 5 → u32At s (i * 36 + (16 + g * 4)) ≡ factorOf (contractRow s i .factors) g
-      each zero l = refl
-      each (suc zero) l = refl
-      each (suc (suc zero)) l = refl
-      each (suc (suc (suc zero))) l = refl
-      each (suc (suc (suc (suc zero)))) l = refl
-      each (suc (suc (suc (suc (suc g))))) l = absurd (none l)
-        where
-          none : suc (suc (suc (suc (suc g)))) < 5 → ⊥
-          none l = omega arith
+  contract-sized i r = record { id = refl; payment = money-at s b (i * 36 + 8) (omega (arith, r .payment)); factor = five (λ g. u32At s (i * 36 + (16 + g * 4)) ≡ factorOf (contractRow s i .factors) g) refl refl refl refl refl }
 
 -- ---- a book whose records keep their rules
 

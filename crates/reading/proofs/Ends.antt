@@ -1,41 +1,22 @@
 -- Each way in which a call on a statement ends, and what a statement's bytes have room for. Assumes nothing.
 use Prim.Native.Nat.{ℕ, _+_, _*_, _≤_, _<_}
 use mathlib.Core.Path.{_≡_, sym, _∙_}
-use mathlib.Core.List.{List, [], _∷_}
+use mathlib.Core.List.{List}
 use mathlib.Core.Bool.{Bool, true, false, not}
-use lib.Dec.{leb}
 use lib.ListN.{length}
 use native.Mathlib.Omega.{arith}
-use borrow.Author.Tests.{le-leb, lt-leb, leb-true, not-true, not-false}
-use Rattle.ground.specs.Inner.Every.{Every}
+use borrow.Author.Tests.{le-leb, lt-leb, not-true, not-false}
 use Rattle.ground.specs.Put.{put}
-use Rattle.ground.proofs.Every.{every}
-use Rattle.sections.specs.Search.{all}
 use Rattle.statement.specs.Lent.{gives, Lent}
 use Rattle.statement.specs.declared.Heading.{Heading}
 use Rattle.statement.specs.declared.Line.{Line}
 use Rattle.statement.specs.declared.Written.the-variants as written
 use Rattle.statement.proofs.Lent.{lent-refused, lent-short, lent-written}
-use Rattle.reading.specs.Reading.{headingAt, lineAt, headed, lineHolds, isStatement}
+use Rattle.parsing.specs.Parsing.{headingAt, lineAt, isStatement}
 use Rattle.reading.specs.Calls.{headingRead, lineRead, ifStatement}
 use Rattle.reading.specs.declared.HeadingRead.the-variants as heading
 use Rattle.reading.specs.declared.LineRead.the-variants as line
-use Rattle.reading.proofs.Whole.{headed-long}
-
--- what a statement has: 24 bytes, a header, lines that hold
-module _ (s : List ℕ) (q : isStatement s ≡ true) where
-  tests : Every (leb 24 (length s) ∷ headed s ∷ all (lineHolds s) (headingAt s .lines) ∷ [])
-  unfolding isStatement
-  tests = every (leb 24 (length s) ∷ headed s ∷ all (lineHolds s) (headingAt s .lines) ∷ []) q
-
-  pub statement-long : 24 ≤ length s
-  statement-long = leb-true 24 (length s) (tests .0)
-
-  pub statement-headed : headed s ≡ true
-  statement-headed = tests .1 .0
-
-  pub statement-lines : all (lineHolds s) (headingAt s .lines) ≡ true
-  statement-lines = tests .1 .1 .0
+use Rattle.parsing.proofs.Whole.{headed-long, statement-long, statement-headed}
 
 module _ (s : List ℕ) {b : Bool} (e : b ≡ isStatement s) where
   -- 14

@@ -1,6 +1,3 @@
-pub mod Read
-pub mod Whole
 pub mod Ends
-pub mod Laid
-pub mod Trip
-pub mod Written
+mod Pieces
+mod Rewritten

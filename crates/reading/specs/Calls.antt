@@ -4,7 +4,7 @@ use mathlib.Core.List.{List}
 use mathlib.Core.Bool.{cond}
 use lib.Dec.{leb}
 use Rattle.statement.specs.Lent.{Outcome, refuses, gives}
-use Rattle.reading.specs.Reading.{headingAt, lineAt, isStatement}
+use Rattle.parsing.specs.Parsing.{headingAt, lineAt, isStatement}
 use Rattle.reading.specs.declared.HeadingRead.{HeadingRead}
 use Rattle.reading.specs.declared.HeadingRead.the-variants as heading
 use Rattle.reading.specs.declared.LineRead.{LineRead}

@@ -1,3 +1,2 @@
-pub mod Reading
 pub mod Calls
-pub mod Inner
+pub mod Rewriting

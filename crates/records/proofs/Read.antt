@@ -5,6 +5,9 @@ use native.Mathlib.Nat.{suc-mul, le-trans, mul-le-mul-right}
 use native.Mathlib.Numerals.{add-one}
 use mathlib.Core.List.{List, [], _∷_}
 use mathlib.Core.Path.{_≡_}
+use lib.Dec.{T, leb, leb→le}
+use mir.Syntax.{w64}
+use mir.Val.{Fits}
 use Rattle.ground.specs.Bytes.{byteAt, u24At, u32At, u64At}
 use Rattle.numbers.specs.Sizes.{sizeBelow, aboveOf, belowOf}
 use Rattle.records.specs.Rows.{entryRow, constraintRow, unitRow, energyRow, contractRow}
@@ -45,3 +48,17 @@ slot i n k l h g = rw add-one (le-trans (mul-le-mul-right k h) g)
 -- and so does its leading number
 pub lead-slot : (i n k l : ℕ) → i < n → (n * k ≤ l) × (4 ≤ k) → i * k + 4 ≤ l
 lead-slot i n k l h g = omega (arith, rw (add-one, suc-mul) at (slot i n k l h (g .0)))
+
+-- b bytes at offset a of record i lie within the section
+pub within : (i k l a b : ℕ) → T (leb (a + b) k) → (i + 1) * k ≤ l → i * k + a + b ≤ l
+within i k l a b t h = omega (arith, leb→le (a + b) k t, rw (add-one, suc-mul) at h)
+
+pub from-start : (i k l b : ℕ) → T (leb b k) → (i + 1) * k ≤ l → i * k + b ≤ l
+from-start i k l b t h = omega (arith, leb→le b k t, rw (add-one, suc-mul) at h)
+
+pub reads : (i k l a : ℕ) → T (leb (a + 1) k) → (i + 1) * k ≤ l → i * k + a < l
+reads i k l a t h = omega (arith, leb→le (a + 1) k t, rw (add-one, suc-mul) at h)
+
+-- and a place before its end is a number of 64 bits
+pub before-end : (x a k : ℕ) → T (leb a k) → Fits w64 (x + k) → Fits w64 (x + a)
+before-end x a k t h = record { fits = omega (arith, leb→le a k t, h .fits) }

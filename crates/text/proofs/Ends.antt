@@ -12,6 +12,7 @@ use Rattle.ground.specs.Bytes.{u32At, partFrom, part, AreBytes}
 use Rattle.ground.specs.Inner.Put.{Wrote}
 use Rattle.ground.proofs.Every.{every}
 use Rattle.ground.proofs.Put.{wrote-more, wrote-length}
+use Rattle.sections.proofs.Cases.{zero-one}
 use Rattle.calendar.specs.Calendar.{isPeriod}
 use Rattle.statement.specs.Lent.{Outcome, refuses, gives, answerFor, Lent}
 use Rattle.statement.specs.declared.Heading.{Heading}
@@ -19,13 +20,13 @@ use Rattle.statement.specs.declared.Written.{Written}
 use Rattle.statement.specs.declared.Written.the-variants.{Length, Refused}
 use Rattle.statement.proofs.Lent.{lent-front}
 use Rattle.parsing.specs.Parsing.{headingAt, headingOk, linesIn, statementMarked, headed, isStatement}
-use Rattle.parsing.proofs.Whole.{headed-length}
-use Rattle.reading.proofs.Ends.{statement-long, statement-headed}
+use Rattle.parsing.proofs.Whole.{headed-length, statement-long, statement-headed}
 use Rattle.settlement.specs.Settle.{outcome}
 use Rattle.trips.proofs.Trip.{written-and-read}
-use Rattle.text.specs.Listing.{headingText, linesText, refusalText, statementText, outcomeText, listingOf}
-use Rattle.text.specs.Inner.Said.{Said}
-use Rattle.text.proofs.Lengths.{heading-short, lines-short}
+use Rattle.printing.specs.Printing.{headingText, linesText, refusalText, statementText}
+use Rattle.text.specs.Listing.{outcomeText, listingOf}
+use Rattle.printing.specs.Inner.Said.{Said}
+use Rattle.printing.proofs.Lengths.{heading-short, lines-short}
 
 -- ---- a statement
 
@@ -65,7 +66,7 @@ module _ (s : List ℕ) (q : isStatement s ≡ true) where
 -- ---- what the statement call answers
 
 apart : (n number place : ℕ) → Refused number place ≡ Length n → ⊥
-apart n number place e = let z : _≡_ {A = ℕ} 0 1 = cc in omega arith
+apart n number place e = zero-one cc
 
 -- into a buffer that is long enough a refusal is the definition's own, and not 13
 own-refusal : (o : Outcome) (l : List ℕ) (number place : ℕ) → ((xs : List ℕ) → o ≡ gives xs → length xs ≤ length l) → Refused number place ≡ answerFor o l → o ≡ refuses number place

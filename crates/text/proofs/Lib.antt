@@ -1,4 +1,2 @@
-pub mod Lengths
-pub mod Turns
 pub mod Ends
 pub mod OwnLines

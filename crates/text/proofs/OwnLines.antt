@@ -10,7 +10,8 @@ use Rattle.accounts.specs.Account.{publicOf, rowsOfAccount}
 use Rattle.statement.specs.Lent.{gives}
 use Rattle.settlement.specs.Settle.{linesOf, headingOf, outcome}
 use Rattle.trips.proofs.Trip.{written-and-read}
-use Rattle.text.specs.Listing.{statementText, outcomeText}
+use Rattle.printing.specs.Printing.{statementText}
+use Rattle.text.specs.Listing.{outcomeText}
 
 pub own-lines : (b : List ℕ) (account : ℕ) (xs : List ℕ) → AreBytes b → account < 2 ^ 32 → outcome b account ≡ gives xs → outcomeText (outcome b account) ≡ statementText (headingOf account (publicOf (bookOf b)) (length (linesOf (publicOf (bookOf b)) (rowsOfAccount (bookOf b) account)))) (linesOf (publicOf (bookOf b)) (rowsOfAccount (bookOf b) account))
 unfolding outcomeText

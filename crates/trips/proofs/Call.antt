@@ -13,6 +13,7 @@ use Rattle.ground.proofs.Part.{part-bytes}
 use Rattle.sections.specs.declared.Verdict.{Verdict}
 use Rattle.sections.specs.declared.Verdict.the-variants.{Accepted, Refused}
 use Rattle.sections.proofs.Search.{some-found}
+use Rattle.sections.proofs.Cases.{five}
 use Rattle.records.specs.Rows.{constraintRow, unitRow, contractRow}
 use Rattle.records.specs.declared.rows.EnergyRow.{EnergyRow}
 use Rattle.totals.specs.Inner.Totals.{entryOf}
@@ -90,15 +91,7 @@ ownOf rows =
 
 own-is : (rows : List EnergyRow) (g : ℕ) → g < 5 → entryOf (ownOf rows) g ≡ ownEnergy rows g
 unfolding ownEnergy
-own-is rows zero l = refl
-own-is rows (suc zero) l = refl
-own-is rows (suc (suc zero)) l = refl
-own-is rows (suc (suc (suc zero))) l = refl
-own-is rows (suc (suc (suc (suc zero)))) l = refl
-own-is rows (suc (suc (suc (suc (suc g))))) l = absurd (over l)
-  where
-    over : suc (suc (suc (suc (suc g)))) < 5 → ⊥
-    over l = omega arith
+own-is rows g l = five (λ g. entryOf (ownOf rows) g ≡ ownEnergy rows g) refl refl refl refl refl g l
 
 module _ (B : Book) (p : Promise B) (account : ℕ) (known : unknown (rowsOfAccount B account) ≡ false) where
   pub account-low : 1 ≤ account

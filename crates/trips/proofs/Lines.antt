@@ -7,6 +7,7 @@ use native.Mathlib.Omega.{arith}
 use borrow.Author.Tests.{le-leb, ltb-false}
 use lib.Dec.{eqb, leb}
 use lib.IntN.{ℤ, natAbs}
+use Rattle.sections.proofs.Cases.{five}
 use Rattle.numbers.specs.Round.{roundN}
 use Rattle.numbers.specs.Sign.{signed, negative}
 use Rattle.ground.proofs.Every.{all}
@@ -36,15 +37,7 @@ or-true false = refl
 
 -- "(one bit for parts 9 and 10)"
 bit-ok : (part g : ℕ) → g < 5 → regionsOk part (2 ^ g) ≡ true
-bit-ok part zero l = or-true (leb part 8)
-bit-ok part (suc zero) l = or-true (leb part 8)
-bit-ok part (suc (suc zero)) l = or-true (leb part 8)
-bit-ok part (suc (suc (suc zero))) l = or-true (leb part 8)
-bit-ok part (suc (suc (suc (suc zero)))) l = or-true (leb part 8)
-bit-ok part (suc (suc (suc (suc (suc g))))) l = absurd (none l)
-  where
-    none : suc (suc (suc (suc (suc g)))) < 5 → ⊥
-    none l = omega arith
+bit-ok part g l = five (λ g. regionsOk part (2 ^ g) ≡ true) (or-true (leb part 8)) (or-true (leb part 8)) (or-true (leb part 8)) (or-true (leb part 8)) (or-true (leb part 8)) g l
 
 -- ---- amounts
 

@@ -1,7 +1,7 @@
 -- `ground::read::above_at` meets its contract. `above_of` of the word that is read. Assumes nothing.
 use mathlib.Core.Path.{_∙_, ap}
 use borrow.Author.Needs.{needs}
-use Rattle.ground.specs.Sizes.{aboveOf}
+use Rattle.numbers.specs.Sizes.{aboveOf}
 use Rattle.ground.proofs.read.above_at.Statement.{statement}
 use Rattle.ground.proofs.read.above_at.Tie as tie
 

@@ -1,7 +1,7 @@
 -- `ground::read::below_at` meets its contract. `below_of` of the word that is read. Assumes nothing.
 use mathlib.Core.Path.{_∙_, ap}
 use borrow.Author.Needs.{needs}
-use Rattle.ground.specs.Sizes.{belowOf}
+use Rattle.numbers.specs.Sizes.{belowOf}
 use Rattle.ground.proofs.read.below_at.Statement.{statement}
 use Rattle.ground.proofs.read.below_at.Tie as tie
 

@@ -1,0 +1,33 @@
+-- `asked::neighbours` meets its contract: the demands' theorems, of what the call promises. Each element of a lent slice is a byte. Assumes nothing.
+use borrow.Author.Needs.{needs}
+use Rattle.demands.proofs.Demand3.{no-neighbours-figure}
+use Rattle.asked.proofs.neighbours.Statement.{statement}
+use Rattle.asked.proofs.neighbours.Tie as tie
+use Rattle.asked.proofs.neighbours.Reads as reads
+use Rattle.asked.proofs.neighbours.Lts as lts
+use Rattle.fervolatro.proofs.fervolatro_statement.Reads as fervolatro-statement-reads
+
+fervolatro-statement-requires : tie.Need-fervolatro-statement-requires
+fervolatro-statement-requires c κs = search needs
+
+fervolatro-statement-requires-2 : tie.Need-fervolatro-statement-requires-2
+fervolatro-statement-requires-2 c κs = search needs
+
+same-length : tie.Need-same-length
+same-length c = search needs
+
+same-length-2 : tie.Need-same-length-2
+same-length-2 c = search needs
+
+returns : tie.Need-returns
+returns c = λ agree equal. no-neighbours-figure .same _ _ _ _ _ _ _ _ agree (c .before .before .before .before .before .before .fervolatro-statement .ensures) (rw (← equal) at (c .before .before .fervolatro-statement2 .ensures))
+
+pub neighbours-spec : {M : Type 1} → statement M
+neighbours-spec =
+    tie.close
+    (tie.spec
+    fervolatro-statement-requires
+    fervolatro-statement-requires-2
+    same-length
+    same-length-2
+    returns)

@@ -1,0 +1,82 @@
+// The three demands, asked of the library's calls themselves. Each function here makes one call (of demand 3, two), and its contract is the demand's own
+// definition: nothing lies between a demand and the edge, and a call that loses its promise is refused here. Nobody calls these functions.
+ghost use mathlib.Core.Path.{_≡_};
+ghost use Rattle.reading.specs.Rewriting.{rewritten};
+ghost use Rattle.unpacking.specs.Unpacking.{unpacked};
+ghost use Rattle.settlement.specs.Settle.{outcome};
+ghost use Rattle.demands.specs.Demand1.{CheckAnswered, PoolAnswered, HeadingAnswered, EntryAnswered, Gives, Answered, onAStatement, onRewriting};
+ghost use Rattle.demands.specs.Demand2.{NumbersAreTheGuides, StatementIsTheGuides, LinesAreTheLineCalls, PoolCloses};
+ghost use Rattle.demands.specs.Demand3.{Agree, Same};
+use fervolatro::EntryAnswer;
+use fervolatro::HeadingAnswer;
+use fervolatro::PoolAnswer;
+use fervolatro::VerdictAnswer;
+use fervolatro::WrittenAnswer;
+
+pub fn check(book: &[u8]) -> VerdictAnswer
+    ensures { λ r. ⌜ CheckAnswered (now (book .entry)) r ⌝ }
+    ensures { λ r. ⌜ (r .refusal ≡ 0 → NumbersAreTheGuides (now (book .entry))) ⌝ }
+{
+    fervolatro::fervolatro_check(book)
+}
+
+pub fn statement(book: &[u8], account: u32, buffer: &mut [u8]) -> WrittenAnswer
+    ensures { λ r. ⌜ Answered onAStatement (outcome (now (book .entry)) account) (now (buffer .entry)) r (now (buffer .exit)) ⌝ }
+    ensures { λ r. ⌜ (r .refusal ≡ 0 → StatementIsTheGuides (now (book .entry)) account (now (buffer .entry)) r (now (buffer .exit))) ⌝ }
+{
+    fervolatro::fervolatro_statement(book, account, buffer)
+}
+
+pub fn balance(book: &[u8], number: u64) -> PoolAnswer
+    ensures { λ r. ⌜ PoolAnswered r ⌝ }
+    ensures { λ r. ⌜ (r .refusal ≡ 0 → PoolCloses (now (book .entry)) number r) ⌝ }
+{
+    fervolatro::fervolatro_balance(book, number)
+}
+
+pub fn header(bytes: &[u8]) -> HeadingAnswer
+    ensures { λ r. ⌜ HeadingAnswered r ⌝ }
+{
+    fervolatro::fervolatro_header(bytes)
+}
+
+pub fn line(bytes: &[u8], index: u64) -> EntryAnswer
+    ensures { λ r. ⌜ EntryAnswered r ⌝ }
+{
+    fervolatro::fervolatro_line(bytes, index)
+}
+
+pub fn rewrite(bytes: &[u8], buffer: &mut [u8]) -> WrittenAnswer
+    ensures { λ r. ⌜ Answered onRewriting (rewritten (now (bytes .entry))) (now (buffer .entry)) r (now (buffer .exit)) ⌝ }
+    ensures { λ r. ⌜ (r .refusal ≡ 0 → Gives (now (bytes .entry)) (now (buffer .entry)) r (now (buffer .exit))) ⌝ }
+{
+    fervolatro::fervolatro_rewrite(bytes, buffer)
+}
+
+pub fn lines(bytes: &[u8], buffer: &mut [u8]) -> WrittenAnswer
+    ensures { λ r. ⌜ Answered onRewriting (unpacked (now (bytes .entry))) (now (buffer .entry)) r (now (buffer .exit)) ⌝ }
+    ensures { λ r. ⌜ (r .refusal ≡ 0 → LinesAreTheLineCalls (now (bytes .entry)) r (now (buffer .exit))) ⌝ }
+{
+    fervolatro::fervolatro_lines(bytes, buffer)
+}
+
+// What two calls answer.
+pub struct Both {
+    pub first: WrittenAnswer,
+    pub second: WrittenAnswer,
+}
+
+// The statements of one account from two books.
+pub fn neighbours(
+    book: &[u8],
+    other: &[u8],
+    account: u32,
+    buffer: &mut [u8],
+    another: &mut [u8],
+) -> Both
+    ensures { λ r. ⌜ (Agree (now (book .entry)) (now (other .entry)) account → now (buffer .entry) ≡ now (another .entry) → Same (r .first) (r .second) (now (buffer .exit)) (now (another .exit))) ⌝ }
+{
+    let first = fervolatro::fervolatro_statement(book, account, buffer);
+    let second = fervolatro::fervolatro_statement(other, account, another);
+    Both { first, second }
+}

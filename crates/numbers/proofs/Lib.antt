@@ -1,0 +1,4 @@
+pub mod Bits
+pub mod Signs
+pub mod Rounding
+pub mod Sizes

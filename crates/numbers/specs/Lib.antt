@@ -1,0 +1,4 @@
+pub mod Sizes
+pub mod Sign
+pub mod Round
+pub mod Inner

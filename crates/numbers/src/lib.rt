@@ -1,0 +1,4 @@
+// Whole numbers: two's complement, sign and size, and rounding.
+pub mod twos; // twos.rt: two's complement, from bits and to bits
+pub mod sign; // sign.rt: whole numbers by their sign and size
+pub mod round; // round.rt: quotients to the nearest whole number

@@ -1,0 +1,5 @@
+pub mod Read
+pub mod Whole
+pub mod Laid
+pub mod Trip
+pub mod Written
