@@ -10,7 +10,7 @@ use lib.IntN.{ℤ, natAbs, _+ℤ_}
 use Rattle.sections.proofs.Cases.{zero-one}
 use Rattle.ground.specs.Bytes.{i64At}
 use Rattle.ground.specs.Inner.Each.{Each}
-use Rattle.parties.specs.Once.{has}
+use Rattle.sharing.specs.Once.{has}
 use Rattle.statement.specs.Lent.{Outcome}
 use Rattle.reading.specs.Calls.{headingRead, lineRead}
 use Rattle.settlement.specs.Settle.{outcome}
