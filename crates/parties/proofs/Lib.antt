@@ -1,7 +1,7 @@
 pub mod Sums
 pub mod Once
 pub mod Everyone
-pub mod Chains
+pub mod Tree
 pub mod Closing
 pub mod Counting
 pub mod Groups

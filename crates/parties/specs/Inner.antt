@@ -3,4 +3,4 @@ pub mod Seen
 pub mod Shares
 pub mod Within
 pub mod Groups
-pub mod Chains
+pub mod Tree
