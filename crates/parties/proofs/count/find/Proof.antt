@@ -1,9 +1,8 @@
 -- `parties::count::find` meets its contract. The invariant, `Way`: all links before this slot lead to rows of other accounts. The way goes up in the list of links: the measure is what is left of it. Assumes nothing.
-use Prim.Native.Nat.{_-_, _<_, _≤_}
+use Prim.Native.Nat.{_-_}
 use mathlib.Core.Path.{refl}
 use native.Mathlib.Omega.{arith}
 use borrow.Author.Needs.{needs}
-use lib.ListN.{getD}
 use Rattle.records.specs.Rows.{unitRow}
 use Rattle.parties.specs.Parties.{unitAccount}
 use Rattle.parties.proofs.Tree.{Way, way-start, way-on, way-row, way-up, way-found, way-end}
@@ -14,7 +13,7 @@ abbrev Inv-loop : tie.InvT-loop
 Inv-loop units u links a k slot₀ bits₀ link₀ slot bits link = Way (unitAccount (unitRow units)) u links a slot bits link
 
 abbrev μ-loop : tie.MeasureT-loop
-μ-loop units u links a k slot₀ bits₀ link₀ slot bits link = 1456 - slot
+μ-loop units u links a k slot₀ bits₀ link₀ slot bits link = 1712 - slot
 
 key-requires : tie.Need-key-requires Inv-loop μ-loop
 key-requires c κs = search needs
