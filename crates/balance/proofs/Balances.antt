@@ -20,10 +20,10 @@ use Rattle.book.specs.Book.{Book}
 use Rattle.book.specs.Inner.Accepted.{Promise}
 use Rattle.accounts.specs.Rows.{sumOf}
 use Rattle.accounts.specs.Account.{publicOf, rowsOfAccount}
-use Rattle.parties.specs.Inner.Shares.{shareIn, partSum, Shareable}
-use Rattle.parties.specs.declared.shares.Part.{Part}
-use Rattle.parties.proofs.Sums.{sum-same, sum-plus, sum-none}
-use Rattle.parties.proofs.Everyone.{each-once-unit, part-everyone}
+use Rattle.sharing.specs.Inner.Shares.{shareIn, partSum, Shareable}
+use Rattle.sharing.specs.declared.shares.Part.{Part}
+use Rattle.sharing.proofs.Sums.{sum-same, sum-plus, sum-none}
+use Rattle.sharing.proofs.Everyone.{each-once-unit, part-everyone}
 use Rattle.settlement.specs.Settle.{linesOf}
 use Rattle.balance.specs.Pools.{Pool, recovers, constraintPool, benefiting, contractPool, inPool}
 use Rattle.balance.specs.Balance.{sumZ, accountsOf, poolLines, lineCount, lineSum, balanceIn}

@@ -12,7 +12,7 @@ use Rattle.ground.specs.Sign.{less}
 use Rattle.ground.proofs.Sizes.{less-size}
 use Rattle.ground.proofs.Rounding.{half-above, half-below, round-zero}
 use Rattle.sections.specs.Total.{total}
-use Rattle.parties.specs.Inner.Within.{HalvesApart}
+use Rattle.sharing.specs.Inner.Within.{HalvesApart}
 
 -- ---- distances
 

@@ -31,11 +31,11 @@ use Rattle.book.proofs.Promise.{accepted}
 use Rattle.amounts.specs.Pools.{poolsOf, residualPools, halvesOf}
 use Rattle.amounts.specs.declared.pools.Pools.{Pools}
 use Rattle.accounts.specs.Account.{publicOf}
-use Rattle.parties.specs.Inner.Within.{HalvesApart}
-use Rattle.parties.specs.Inner.Shares.{shareIn, partSum, Shareable}
-use Rattle.parties.specs.declared.shares.Part.{Part}
-use Rattle.parties.proofs.Sums.{sum-same, sum-none}
-use Rattle.parties.proofs.Closing.{part-closing}
+use Rattle.sharing.specs.Inner.Within.{HalvesApart}
+use Rattle.sharing.specs.Inner.Shares.{shareIn, partSum, Shareable}
+use Rattle.sharing.specs.declared.shares.Part.{Part}
+use Rattle.sharing.proofs.Sums.{sum-same, sum-none}
+use Rattle.sharing.proofs.Closing.{part-closing}
 use Rattle.balance.specs.Pools.{Pool, recovers, stagesOf, constraintPool, constraintPools, benefiting, contractPool, poolsIn, found, poolAt}
 use Rattle.balance.specs.Balance.{accountsOf, lineCount, lineSum, balanceIn}
 use Rattle.balance.specs.Inner.Shapes.{belongs, aboveBy, belowBy, poolBy, creditBy, chargeBy, unitRows, unitCredit, unitCharge, partOf, consumedPart, sentPart, regionPaid, contingencyShape, regulationShape, contractShape}

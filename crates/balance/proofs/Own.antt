@@ -17,10 +17,10 @@ use Rattle.book.specs.Inner.Accepted.{Promise}
 use Rattle.accounts.specs.Rows.{rowsOf, sumOf}
 use Rattle.accounts.specs.Account.{rowsOfAccount, ownEnergy}
 use Rattle.accounts.proofs.Lists.{total-rows}
-use Rattle.parties.specs.Inner.Shares.{byBasis, ownInPart}
-use Rattle.parties.specs.declared.shares.Basis.{Basis}
-use Rattle.parties.specs.declared.shares.Basis.the-variants.{Ace, Asoe, Residual}
-use Rattle.parties.specs.declared.shares.Part.{Part}
+use Rattle.sharing.specs.Inner.Shares.{byBasis, ownInPart}
+use Rattle.sharing.specs.declared.shares.Basis.{Basis}
+use Rattle.sharing.specs.declared.shares.Basis.the-variants.{Ace, Asoe, Residual}
+use Rattle.sharing.specs.declared.shares.Part.{Part}
 use Rattle.balance.specs.Inner.Shapes.{partOf}
 use Rattle.balance.proofs.Energy.{choices, entryBy, Counted, constraint-energy, region-energy}
 

@@ -28,9 +28,9 @@ use Rattle.book.specs.Inner.Accepted.{Promise}
 use Rattle.book.specs.declared.header.Header.{Header}
 use Rattle.amounts.specs.Pools.{halvesOf}
 use Rattle.amounts.specs.declared.pools.Halves.{Halves}
-use Rattle.parties.specs.Inner.Shares.{byBasis, partSum, Shareable}
-use Rattle.parties.specs.declared.shares.Part.{Part}
-use Rattle.parties.proofs.Rows.{part-rows}
+use Rattle.sharing.specs.Inner.Shares.{byBasis, partSum, Shareable}
+use Rattle.sharing.specs.declared.shares.Part.{Part}
+use Rattle.sharing.proofs.Rows.{part-rows}
 use Rattle.balance.specs.Pools.{benefiting}
 use Rattle.balance.specs.Inner.Shapes.{consumedPart, sentPart, regionPaid}
 use Rattle.balance.specs.Inner.Rests.{OfContract, PaidIs, Listed, ListsAre, twoShares, rowPays, Fair, Payable, AllPayable}

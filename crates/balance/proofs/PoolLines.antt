@@ -28,7 +28,7 @@ use Rattle.amounts.specs.Shares.{byFactor, byEnergy}
 use Rattle.amounts.specs.declared.pools.Pools.{Pools}
 use Rattle.amounts.specs.declared.pools.Residual.{Residual}
 use Rattle.accounts.specs.Account.{publicOf, rowsOfAccount}
-use Rattle.parties.specs.Inner.Shares.{shareIn}
+use Rattle.sharing.specs.Inner.Shares.{shareIn}
 use Rattle.statement.specs.declared.Line.{Line}
 use Rattle.lines.specs.Lines.{contingencyLine, unitLines, restLines, regionLines}
 use Rattle.settlement.specs.Settle.{linesOf}

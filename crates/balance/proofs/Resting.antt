@@ -22,11 +22,11 @@ use Rattle.amounts.specs.Inner.Bounds.{SmallPools}
 use Rattle.amounts.specs.Pools.{poolsOf}
 use Rattle.amounts.specs.declared.pools.Pools.{Pools}
 use Rattle.amounts.proofs.Sizes.{pools-small, residual-small}
-use Rattle.parties.specs.Parties.{accountsIn}
-use Rattle.parties.specs.Inner.Shares.{partSum, Sorted, Shareable}
-use Rattle.parties.specs.declared.shares.Basis.{Basis}
-use Rattle.parties.specs.declared.shares.Basis.the-variants as basis
-use Rattle.parties.specs.declared.shares.Part.{Part}
+use Rattle.sharing.specs.Accounts.{accountsIn}
+use Rattle.sharing.specs.Inner.Shares.{partSum, Sorted, Shareable}
+use Rattle.sharing.specs.declared.shares.Basis.{Basis}
+use Rattle.sharing.specs.declared.shares.Basis.the-variants as basis
+use Rattle.sharing.specs.declared.shares.Part.{Part}
 use Rattle.balance.specs.Pools.{recovers}
 use Rattle.balance.specs.Inner.Shapes.{poolBy, recoveryOf, constraintBasis, partOf, contingencyShape, regulationShape, contractShape}
 use Rattle.balance.specs.Inner.Units.{SumsAre}

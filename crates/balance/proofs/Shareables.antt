@@ -15,9 +15,9 @@ use Rattle.amounts.specs.Inner.Bounds.{SmallResidual, SmallHalves}
 use Rattle.amounts.specs.Pools.{poolsOf, residualPools, halvesOf}
 use Rattle.amounts.specs.declared.pools.Residual.{Residual}
 use Rattle.amounts.proofs.Sizes.{pools-small, residual-small, halves-small}
-use Rattle.parties.specs.Inner.Shares.{byBasis, Sorted, Shareable}
-use Rattle.parties.specs.declared.shares.Basis.{Basis}
-use Rattle.parties.specs.declared.shares.Basis.the-variants as basis
+use Rattle.sharing.specs.Inner.Shares.{byBasis, Sorted, Shareable}
+use Rattle.sharing.specs.declared.shares.Basis.{Basis}
+use Rattle.sharing.specs.declared.shares.Basis.the-variants as basis
 use Rattle.balance.specs.Inner.Shapes.{creditBy, chargeBy, partOf, consumedPart, sentPart}
 use Rattle.balance.specs.declared.kinds.Kind.{Kind}
 use Rattle.balance.specs.declared.kinds.Kind.the-variants.{Contingency, Fpp, Used, Unused, Payment}

@@ -14,7 +14,7 @@ use Rattle.sections.specs.declared.Verdict.the-variants.{Accepted, Refused}
 use Rattle.book.specs.Book.{bookOf}
 use Rattle.book.specs.Table.{verdict}
 use Rattle.accounts.specs.Account.{publicOf}
-use Rattle.parties.specs.Once.{has}
+use Rattle.sharing.specs.Once.{has}
 use Rattle.statement.specs.Lent.{Outcome, refuses, gives, answerFor, leftIn}
 use Rattle.statement.specs.declared.Written.the-variants as written
 use Rattle.statement.specs.Statement.{statementBytes}

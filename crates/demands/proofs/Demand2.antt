@@ -18,7 +18,7 @@ use Rattle.book.proofs.Passed.{records-passed}
 use Rattle.book.specs.Table.{verdict, check8, check9}
 use Rattle.accounts.specs.Rows.{keep, sumOf}
 use Rattle.accounts.specs.Account.{publicOf, rowsOfAccount}
-use Rattle.parties.specs.Once.{has}
+use Rattle.sharing.specs.Once.{has}
 use Rattle.statement.specs.Statement.{statementBytes}
 use Rattle.statement.specs.Lent.{Outcome, refuses, gives}
 use Rattle.statement.specs.declared.Line.{Line}

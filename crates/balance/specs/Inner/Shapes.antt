@@ -21,10 +21,10 @@ use Rattle.book.specs.Book.{Book}
 use Rattle.amounts.specs.Pools.{poolsOf, residualPools, halvesOf}
 use Rattle.amounts.specs.declared.pools.Pools.{Pools}
 use Rattle.amounts.specs.declared.pools.Residual.{Residual}
-use Rattle.parties.specs.Inner.Shares.{partSum}
-use Rattle.parties.specs.declared.shares.Basis.{Basis}
-use Rattle.parties.specs.declared.shares.Basis.the-variants as basis
-use Rattle.parties.specs.declared.shares.Part.{Part}
+use Rattle.sharing.specs.Inner.Shares.{partSum}
+use Rattle.sharing.specs.declared.shares.Basis.{Basis}
+use Rattle.sharing.specs.declared.shares.Basis.the-variants as basis
+use Rattle.sharing.specs.declared.shares.Part.{Part}
 use Rattle.balance.specs.Pools.{recovers, benefiting}
 use Rattle.balance.specs.Balance.{accountsOf}
 use Rattle.balance.specs.declared.Balance.{Balance}

@@ -1,8 +1,0 @@
-pub mod Sums
-pub mod Once
-pub mod Everyone
-pub mod Tree
-pub mod Closing
-pub mod Counting
-pub mod Groups
-pub mod Rows
