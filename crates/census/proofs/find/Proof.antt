@@ -46,7 +46,7 @@ returns : tie.Need-returns Inv-loop μ-loop
 returns c = (c .before .before .before .loop .inv .near, way-found _ _ _ (c .before .before .before .loop .inv) refl (c .before .unit-account .ensures) (c .if1 .taken))
 
 child-requires : tie.Need-child-requires Inv-loop μ-loop
-child-requires c κs = (omega (arith, way-row _ _ _ (c .before .before .before .before .before .before .before .before .pre .1) (c .before .before .before .loop .inv)), c .before .before .before .loop .inv .small)
+child-requires c κs = (omega (arith, way-row _ _ _ (c .before .before .before .before .before .before .before .before .pre .1) (c .before .before .before .loop .inv)), omega (arith, c .before .before .before .loop .inv .small))
 
 mul-bits-2 : tie.Need-mul-bits-2 Inv-loop μ-loop
 mul-bits-2 c = search needs

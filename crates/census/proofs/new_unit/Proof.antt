@@ -24,7 +24,7 @@ returns c =
     let tree = c .before .before .before .before .before .before .pre .1 in
     let account = c .before .before .before .unit-account .ensures in
     let place = c .before .before .find .ensures .1 in
-    (seen-old _ _ account (sym (place-old _ _ _ _ tree place (c .if1 .taken))) refl, grown-old _ _ _ tree account place (c .if1 .taken))
+    (seen-old _ _ account (sym (place-old _ _ _ _ tree place (omega arith))) refl, grown-old _ _ _ tree account place (omega arith))
 
 add-links : tie.Need-add-links
 add-links c = search needs
