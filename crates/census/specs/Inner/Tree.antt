@@ -1,5 +1,5 @@
 -- A tree of records by their names, in one list of links. A link is the number of a record and 1 more, or 0 where it is empty. The first 512
--- are the roots; the two behind them at 2 p are the children of record p. A name has a key, and its bits lead from a root down.
+-- slots are the roots; slots 512 + 2 p and 513 + 2 p are the children of record p. The bits of a name's key lead from a root down.
 use Prim.Native.Nat.{ℕ, zero, suc, _+_, _*_, _-_, _/_, _%_, _≤_, _<_}
 use mathlib.Core.Path.{_≡_}
 use mathlib.Core.List.{List}
@@ -49,7 +49,7 @@ pub record Found (name : ℕ → ℕ) (links : List ℕ) (a : ℕ) : Type 0 wher
   pub filled : (e : ℕ) → e ≤ depth → 0 < linkAt links a e
   pub own : name (linkAt links a depth - 1) ≡ a
 
--- the tree of the records 0 .. u - 1: each name is found, and a child's record stands behind its parent's
+-- the tree of the records 0 .. u - 1: each name is found, and a link stands before the children of its record
 pub record Grown (name : ℕ → ℕ) (u : ℕ) (links : List ℕ) : Type 0 where
   pub slots : length links ≡ 1712
   pub rows : (s : ℕ) → getD links s 0 ≤ u
