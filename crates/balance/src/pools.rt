@@ -24,12 +24,12 @@ use book::header::Header;
 use ground::sign;
 use market::Region;
 use market::Service;
-use sharing::shares::Basis;
-use sharing::shares::Part;
 use records::rows;
 use records::rows::Constraint;
 use records::rows::Contract;
 use records::rows::EnergyRow;
+use sharing::shares::Basis;
+use sharing::shares::Part;
 use totals::divisors;
 
 // How many accounts the book has.
