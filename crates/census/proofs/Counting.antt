@@ -19,10 +19,6 @@ use Rattle.sharing.specs.Inner.Shares.{Sorted}
 use Rattle.sharing.proofs.Once.{seen-each, seen-none, has-named, length-join, length-named, named-turned}
 use Rattle.sharing.proofs.Everyone.{accounts-few}
 
--- the accounts of sorted rows keep their order
-pub in-order : {energy : ℕ → EnergyRow} {n : ℕ} → Sorted energy n → Keeps (energyAccount energy) n
-in-order s = record { keep = s .order .first }
-
 -- ---- whether a row's account is known
 
 -- of names in order, the one before tells whether a name was seen

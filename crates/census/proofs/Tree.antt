@@ -1,109 +1,199 @@
--- The chains of a hash table's buckets: how they grow, and what a walk along one of them finds. Assumes nothing.
-use Prim.Native.Nat.{ℕ, _+_, _-_, _≤_, _<_}
+-- The tree of records by their names: how it grows, and what the way of a name comes to. Assumes nothing.
+use Prim.Native.Nat.{ℕ, zero, suc, _+_, _*_, _-_, _%_, _≤_, _<_}
 use mathlib.Core.Path.{_≡_, refl, _∙_, sym, ap}
 use mathlib.Core.List.{List}
 use mathlib.Core.Bool.{Bool, true, false}
 use mathlib.Core.Logic.{⊎-elim}
 use native.Mathlib.Omega.{arith}
-use native.Mathlib.Nat.{eq-or-lt-of-le}
-use borrow.Author.Tests.{eqb-true, eqb-false}
-use lib.Dec.{eqb}
+use native.Mathlib.Nat.{eq-or-lt-of-le, le-of-suc-le-suc}
+use borrow.Author.Tests.{eqb-true, eqb-false, lt-ltb, le-ltb}
+use lib.Dec.{eqb, ltb}
 use lib.ListN.{getD, set, replicate, length-set, length-replicate, getD-replicate}
 use lib.Seq.{getD-set-same, getD-set-other}
 use Rattle.sections.proofs.Search.{lt-or-ge}
-use Rattle.census.specs.Inner.Tree.{bucketOf, Last, Chained}
+use Rattle.census.specs.Inner.Tree.{keyOf, rootOf, bitsAt, childOf, slotAt, linkAt, Another, Place, Found, Grown}
 use Rattle.sharing.specs.Inner.Seen.{seen}
 use Rattle.sharing.proofs.Once.{seen-each, seen-none}
 
-module _ (name : ℕ → ℕ) where
-  -- ---- the chains
+-- ---- links set
 
-  -- no record, no chain
-  last-none : (h : ℕ) {p : ℕ} → p ≡ 0 → Last name 0 h p
-  last-none h {p} e =
-      record { within = omega arith; own = λ k q. absurd (omega arith); rest = λ k l m q. absurd (omega arith) }
+-- a link that is set where none was leaves the ways that come to no empty link
+module _ (links : List ℕ) (s x : ℕ) (empty : getD links s 0 ≤ 0) where
+  kept-link : (t : ℕ) → 0 < getD links t 0 → getD (set links s x) t 0 ≡ getD links t 0
+  kept-link t f =
+      let other : t ≡ s → ⊥ = λ q. let e : getD links t 0 ≡ getD links s 0 = rw q in omega (arith, f, e, empty) in
+      getD-set-other links s t x 0 other
 
-  pub chained-none : Chained name 0 (replicate 1024 0) (replicate 600 0)
-  chained-none =
+  kept-slot : (a d : ℕ) → ((e : ℕ) → e < d → 0 < linkAt links a e) → slotAt (set links s x) a d ≡ slotAt links a d
+  unfolding slotAt
+  kept-slot a zero f = refl
+  kept-slot a (suc d) f =
+      rw (kept-slot a d (λ e l. f e (omega arith)), kept-link (slotAt links a d) (f d (omega arith)))
+
+  kept-found : (name : ℕ → ℕ) (a : ℕ) → Found name links a → Found name (set links s x) a
+  kept-found name a w =
       record {
-        buckets = length-replicate {A = ℕ} 1024 0;
-        places = length-replicate {A = ℕ} 600 0;
-        ends = λ h l. last-none h (getD-replicate {A = ℕ} 1024 h 0 0 l);
-        links = λ j l. absurd (omega arith);
+        depth = w .depth;
+        filled = λ e l. rw (same e l) (w .filled e l);
+        own = rw (same (w .depth) (omega arith)) (w .own);
       }
+    where
+      same : (e : ℕ) → e ≤ w .depth → linkAt (set links s x) a e ≡ linkAt links a e
+      same e l = rw (kept-slot a e (λ i m. w .filled i (omega arith))) (kept-link (slotAt links a e) (w .filled e l))
 
-  -- record u is the last of its own bucket
-  last-own : (u h : ℕ) {p : ℕ} → p ≡ u + 1 → bucketOf (name u) ≡ h → Last name (u + 1) h p
-  last-own u h {p} e q =
-      record { within = omega arith; own = λ k z. let y : k ≡ u = omega arith in rw y q; rest = λ k l m z. absurd (omega arith) }
+module _ (name : ℕ → ℕ) where
+  -- ---- what the place of a name says
 
-  -- and leaves the last of any other
-  last-other : (u h : ℕ) {p x : ℕ} → x ≡ p → Last name u h p → (bucketOf (name u) ≡ h → ⊥) → Last name (u + 1) h x
-  last-other u h {p} {x} e s d =
+  -- a record of its name stands there
+  pub place-old : (u a s : ℕ) {links : List ℕ} → Grown name u links → Place name links a s → 0 < getD links s 0 → seen name u a ≡ true
+  place-old u a s {links} g p f =
+      let l : getD links s 0 - 1 < u = omega (arith, g .rows s) in
+      rw (p .own f) at (seen-each name u (getD links s 0 - 1) l)
+
+  -- it is empty, and no record has the name: it would have been found before, or here
+  pub place-new : (u a s : ℕ) {links : List ℕ} → Grown name u links → Place name links a s → getD links s 0 ≤ 0 → seen name u a ≡ false
+  place-new u a s {links} g p z = seen-none name u a none
+    where
+      none : (k : ℕ) → k < u → name k ≡ a → ⊥
+      none k l q =
+          let w : Found name links a = rw q at (g .found k l) in
+          ⊎-elim
+          (λ (m : w .depth < p .depth). p .passed (w .depth) m .other (w .own))
+          (λ (m : p .depth ≤ w .depth). let f : 0 < getD links s 0 = rw (p .here) (w .filled (p .depth) m) in omega arith)
+          (lt-or-ge (w .depth) (p .depth))
+
+  pub place-told : (u a s : ℕ) {links : List ℕ} → Grown name u links → Place name links a s → ltb 0 (getD links s 0) ≡ seen name u a
+  place-told u a s {links} g p =
+      ⊎-elim
+      (λ (f : 0 < getD links s 0). lt-ltb 0 (getD links s 0) f ∙ sym (place-old u a s g p f))
+      (λ (z : getD links s 0 ≤ 0). le-ltb 0 (getD links s 0) z ∙ sym (place-new u a s g p z))
+      (lt-or-ge 0 (getD links s 0))
+
+  -- ---- how the tree grows
+
+  -- no record, no link
+  pub grown-none : Grown name 0 (replicate 1712 0)
+  grown-none =
+      record {
+        slots = length-replicate {A = ℕ} 1712 0;
+        rows = λ s. rw (empty 1712 s) (omega arith);
+        rises = λ s f. absurd (omega (arith, f, empty 1712 s));
+        found = λ j l. absurd (omega arith);
+      }
+    where
+      empty : (n s : ℕ) → getD {A = ℕ} (replicate n 0) s 0 ≡ 0
+      empty zero s = refl
+      empty (suc n) zero = refl
+      empty (suc n) (suc s) = empty n s
+
+  -- record u has a name that is known, and is left out
+  pub grown-old : (u s : ℕ) {a : ℕ} {links : List ℕ} → Grown name u links → a ≡ name u → Place name links a s → 0 < getD links s 0 → Grown name (u + 1) links
+  grown-old u s {a} {links} g q p f =
+      record {
+        slots = g .slots;
+        rows = λ t. omega (arith, g .rows t);
+        rises = g .rises;
+        found = λ j l. ⊎-elim (λ (e : j ≡ u). rw (e, ← q) known) (λ (m : j < u). g .found j m) (eq-or-lt-of-le (last j l));
+      }
+    where
+      last : (j : ℕ) → j < u + 1 → j ≤ u
+      last j l = omega arith
+
+      known : Found name links a
+      known =
+          record {
+            depth = p .depth;
+            filled = λ e l. ⊎-elim (λ (h : e ≡ p .depth). rw (h, ← p .here) f) (λ (h : e < p .depth). p .passed e h .filled) (eq-or-lt-of-le l);
+            own = rw (← p .here) (p .own f);
+          }
+
+  -- record u has a new name, and is put at its place
+  pub grown-more : (u s : ℕ) {a : ℕ} {links links′ : List ℕ} → Grown name u links → a ≡ name u → Place name links a s → s < 512 + 2 * u → u < 600 → getD links s 0 ≤ 0 → links′ ≡ set links s (u + 1) → Grown name (u + 1) links′
+  grown-more u s {a} {links} g q p near few z e =
       rw e
       (record {
-        within = omega (arith, s .within);
-        own = s .own;
-        rest = λ k l m z. ⊎-elim (λ (q : k < u). s .rest k l q z) (λ (q : u ≤ k). let y : u ≡ k = omega arith in d (rw y z)) (lt-or-ge k u);
-      })
-
-  -- a turn: record u is put at the end of its chain
-  pub chained-more : (u : ℕ) {h : ℕ} {last before last′ before′ : List ℕ} → Chained name u last before → h ≡ bucketOf (name u) → h < 1024 → u < 600 → last′ ≡ set last h (u + 1) → before′ ≡ set before u (getD last h 0) → Chained name (u + 1) last′ before′
-  chained-more u {h} {last} {before} c e hl ul p q =
-      rw (p, q)
-      (record {
-        buckets = length-set last h (u + 1) ∙ c .buckets;
-        places = length-set before u (getD last h 0) ∙ c .places;
-        ends = λ g l. end g l (eqb g h) refl;
-        links = λ j l. linked j l (eqb j u) refl;
+        slots = length-set links s (u + 1) ∙ g .slots;
+        rows = λ t. row t (eqb t s) refl;
+        rises = λ t. rise t (eqb t s) refl;
+        found = λ j l. ⊎-elim (λ (h : j ≡ u). rw (h, ← q) put) (λ (m : j < u). kept-found links s (u + 1) z name (name j) (g .found j m)) (eq-or-lt-of-le (last j l));
       })
     where
-      end : (g : ℕ) → g < 1024 → (t : Bool) → eqb g h ≡ t → Last name (u + 1) g (getD (set last h (u + 1)) g 0)
-      end g l true t =
-          let same : g ≡ h = eqb-true g h t in
-          last-own u g (rw same (getD-set-same last h (u + 1) 0 (rw (c .buckets) hl))) (sym e ∙ sym same)
-      end g l false t =
-          let other : g ≡ h → ⊥ = eqb-false g h t in
-          last-other u g (getD-set-other last h g (u + 1) 0 other) (c .ends g l) (λ z. other (sym z ∙ sym e))
+      last : (j : ℕ) → j < u + 1 → j ≤ u
+      last j l = omega arith
 
-      linked : (j : ℕ) → j < u + 1 → (t : Bool) → eqb j u ≡ t → Last name j (bucketOf (name j)) (getD (set before u (getD last h 0)) j 0)
-      linked j l true t =
-          let same : j ≡ u = eqb-true j u t in
-          rw (same, getD-set-same before u (getD last h 0) 0 (rw (c .places) ul), ← e) (c .ends h hl)
-      linked j l false t =
-          let other : j ≡ u → ⊥ = eqb-false j u t in
-          rw (getD-set-other before u j (getD last h 0) 0 other) (c .links j (omega (arith, other)))
+      there : getD (set links s (u + 1)) s 0 ≡ u + 1
+      there = getD-set-same links s (u + 1) 0 (rw (g .slots) (omega arith))
 
-  -- ---- a walk along the chain of a name a: from record p - 1 on down it is still to be looked for
+      row : (t : ℕ) (b : Bool) → eqb t s ≡ b → getD (set links s (u + 1)) t 0 ≤ u + 1
+      row t true h = rw (eqb-true t s h, there) (omega arith)
+      row t false h = rw (getD-set-other links s t (u + 1) 0 (eqb-false t s h)) (omega (arith, g .rows t))
 
-  pub record Walk (u a p : ℕ) : Type 0 where
-    pub within : p ≤ u
-    pub own : (k : ℕ) → p ≡ k + 1 → bucketOf (name k) ≡ bucketOf a
-    pub past : (k : ℕ) → p ≤ k → k < u → name k ≡ a → ⊥
+      rise : (t : ℕ) (b : Bool) → eqb t s ≡ b → 0 < getD (set links s (u + 1)) t 0 → t < 510 + 2 * getD (set links s (u + 1)) t 0
+      rise t true h f = rw (eqb-true t s h, there) (omega arith)
+      rise t false h f =
+          let o : getD (set links s (u + 1)) t 0 ≡ getD links t 0 = getD-set-other links s t (u + 1) 0 (eqb-false t s h) in
+          rw o (g .rises t (rw o at f))
 
-  pub walk-start : (u a : ℕ) {h p : ℕ} {last before : List ℕ} → Chained name u last before → h ≡ bucketOf a → h < 1024 → p ≡ getD last h 0 → Walk u a p
-  walk-start u a {h} {p} {last} c e l q =
-      let s : Last name u (bucketOf a) p = rw (q, ← e) (c .ends h l) in
-      record { within = s .within; own = s .own; past = λ k m b z. s .rest k m b (ap bucketOf z) }
+      same : (d : ℕ) → d ≤ p .depth → slotAt (set links s (u + 1)) a d ≡ slotAt links a d
+      same d l = kept-slot links s (u + 1) z a d (λ e m. p .passed e (omega arith) .filled)
 
-  -- the record at j is another's
-  pub walk-on : (u a : ℕ) {p j x b : ℕ} {last before : List ℕ} → Chained name u last before → Walk u a p → 0 < p → j ≡ p - 1 → b ≡ name j → (b ≡ a → ⊥) → x ≡ getD before j 0 → Walk u a x
-  walk-on u a {p} {j} {x} {b} c w pos jp e d q =
-      let s : Last name j (bucketOf (name j)) x = rw q (c .links j (omega (arith, w .within))) in
-      let m : bucketOf (name j) ≡ bucketOf a = w .own j (omega arith) in
+      end : linkAt (set links s (u + 1)) a (p .depth) ≡ u + 1
+      end = rw (same (p .depth) (omega arith), ← p .here) there
+
+      less : u + 1 - 1 ≡ u
+      less = omega arith
+
+      put : Found name (set links s (u + 1)) a
+      put =
+          record {
+            depth = p .depth;
+            filled = λ d l. ⊎-elim (λ (h : d ≡ p .depth). rw (h, end) (omega arith)) (λ (h : d < p .depth). rw (same d l, kept-link links s (u + 1) z (slotAt links a d) (p .passed d h .filled)) (p .passed d h .filled)) (eq-or-lt-of-le l);
+            own = rw end (ap name less ∙ sym q);
+          }
+
+  -- ---- the way of a name a, link by link: at slot s after d children, all before it to records of other names
+
+  pub record Way (u : ℕ) (links : List ℕ) (a s bits link : ℕ) : Type 0 where
+    pub depth : ℕ
+    pub here : s ≡ slotAt links a depth
+    pub left : bits ≡ bitsAt a depth
+    pub small : bits < 4_294_967_296
+    pub told : link ≡ getD links s 0
+    pub near : s < 512 + 2 * u
+    pub passed : (e : ℕ) → e < depth → Another name a (linkAt links a e)
+
+  pub way-start : (u a : ℕ) {links : List ℕ} {key s bits link : ℕ} → key ≡ keyOf a → s ≡ rootOf key → s < 512 → bits ≡ key * 512 % 4_294_967_296 → link ≡ getD links s 0 → Way u links a s bits link
+  unfolding slotAt bitsAt
+  way-start u a k r l b t =
+      record { depth = 0; here = rw (r, k) refl; left = rw (b, k) refl; small = rw b (omega arith); told = t; near = omega arith; passed = λ e m. absurd (omega arith) }
+
+  -- the record of the link has another name
+  pub way-on : (u a : ℕ) {links : List ℕ} {s bits link j b s′ bits′ link′ : ℕ} → Grown name u links → Way u links a s bits link → 0 < link → j ≡ link - 1 → b ≡ name j → (b ≡ a → ⊥) → s′ ≡ childOf link bits → bits′ ≡ bits * 2 % 4_294_967_296 → link′ ≡ getD links s′ 0 → Way u links a s′ bits′ link′
+  unfolding slotAt bitsAt
+  way-on u a {links} {s} {bits} {link} g w f jl e d c n t =
       record {
-        within = omega (arith, s .within, w .within);
-        own = λ k z. s .own k z ∙ m;
-        past = λ k l r z. ⊎-elim (λ (y : k < j). s .rest k l y (ap bucketOf z ∙ sym m)) (λ (y : j ≤ k). ⊎-elim (λ (t : j ≡ k). d (e ∙ rw t z)) (λ (t : j < k). w .past k (omega arith) r z) (eq-or-lt-of-le y)) (lt-or-ge k j);
+        depth = suc (w .depth);
+        here = c ∙ rw (← w .here, ← w .told, ← w .left) refl;
+        left = n ∙ rw (w .left) refl;
+        small = rw n (omega arith);
+        told = t;
+        near = rw c (omega (arith, w .small, rw (← w .told) at (g .rows s)));
+        passed = λ i m. ⊎-elim (λ (h : i ≡ w .depth). rw (h, ← w .here, ← w .told) (record { filled = f; other = λ q. d (e ∙ rw jl q) })) (λ (h : i < w .depth). w .passed i h) (eq-or-lt-of-le (le-of-suc-le-suc m));
       }
 
-  pub walk-less : (u a : ℕ) {p j x : ℕ} {last before : List ℕ} → Chained name u last before → Walk u a p → 0 < p → j ≡ p - 1 → x ≡ getD before j 0 → x < p
-  walk-less u a {p} {j} {x} c w pos jp q = rw q (omega (arith, c .links j (omega (arith, w .within)) .within))
+  -- the link is to a record of the tree
+  pub way-row : (u a : ℕ) {links : List ℕ} {s bits link : ℕ} → Grown name u links → Way u links a s bits link → link ≤ u
+  way-row u a {links} {s} g w = rw (w .told) (g .rows s)
 
-  -- or it gives a
-  pub walk-found : (u a : ℕ) {p j b : ℕ} → Walk u a p → 0 < p → j ≡ p - 1 → b ≡ name j → b ≡ a → true ≡ seen name u a
-  walk-found u a {p} {j} w pos jp e d = rw (← (sym e ∙ d)) (sym (seen-each name u j (omega (arith, w .within))))
+  -- the way goes up in the list
+  pub way-up : (u a : ℕ) {links : List ℕ} {s bits link s′ : ℕ} → Grown name u links → Way u links a s bits link → 0 < link → s′ ≡ childOf link bits → s < s′
+  way-up u a {links} {s} g w f c = rw c (omega (arith, rw (← w .told) at (g .rises s (rw (← w .told) f))))
 
-  -- none did
-  pub walk-end : (u a : ℕ) {p : ℕ} → Walk u a p → p ≤ 0 → false ≡ seen name u a
-  walk-end u a w l = sym (seen-none name u a (λ k b z. w .past k (omega arith) b z))
+  -- it has the name
+  pub way-found : (u a : ℕ) {links : List ℕ} {s bits link j b : ℕ} → Way u links a s bits link → j ≡ link - 1 → b ≡ name j → b ≡ a → Place name links a s
+  way-found u a w jl e d =
+      record { depth = w .depth; here = w .here; passed = w .passed; own = λ f. rw (← w .told, ← jl, ← e) d }
+
+  -- or there is none
+  pub way-end : (u a : ℕ) {links : List ℕ} {s bits link : ℕ} → Way u links a s bits link → link ≤ 0 → Place name links a s
+  way-end u a w z = record { depth = w .depth; here = w .here; passed = w .passed; own = λ f. absurd (omega (arith, w .told)) }

@@ -1,13 +1,13 @@
 // The accounts of a book: each that an energy row or a unit row names, counted once.
-// The unit rows come first, in a hash table: an account is hashed to one of 1,024 buckets, and the rows of a bucket are linked in a chain,
-// each to the one before it, so that an account is looked for among few of them. The energy rows are sorted by account, and each account of
-// theirs is looked up once.
+// The unit rows come first, in a tree: an account's key has 32 bits, of which the first 9 choose one of 512 roots and each further bit one of
+// two children, until the place is empty or has a row of the account. No two accounts have the same key, so no way is longer than 24 links,
+// whatever the accounts are. The energy rows are sorted by account, and each account of theirs is looked up once.
 ghost use mathlib.Core.Path.{_≡_};
 ghost use mathlib.Core.List.{[]};
 ghost use Prim.Native.Nat.{_+_, _*_, _≤_, _<_};
-ghost use lib.ListN.{length, getD, set};
+ghost use lib.ListN.{length};
 ghost use Rattle.records.specs.Rows.{energyRow, unitRow};
-ghost use Rattle.census.specs.Inner.Tree.{bucketOf, Chained};
+ghost use Rattle.census.specs.Inner.Tree.{keyOf, rootOf, childOf, Place, Grown};
 ghost use Rattle.sharing.specs.Once.{has, named};
 ghost use Rattle.sharing.specs.Inner.Seen.{seen, newly};
 ghost use Rattle.sharing.specs.Accounts.{energyAccount, unitAccount, accountsIn};
@@ -28,66 +28,86 @@ fn unit_account(units: &[u8], u: usize) -> u32
     read::u32_at(units, u * 20 + 8)
 }
 
-// The hash of an account: the bucket in whose chain its rows stand.
-fn bucket(a: u32) -> usize
-    ensures { λ h. ⌜ (h ≡ bucketOf a) × (h < 1024) ⌝ }
+// The key of an account, by whose bits it is looked for in the tree.
+fn key(a: u32) -> usize
+    ensures { λ k. ⌜ (k ≡ keyOf a) × (k < 4_294_967_296) ⌝ }
 {
-    ((a as u64) * 2_654_435_761 / 4_194_304 % 1024) as usize
+    (a as usize) * 2_654_435_761 % 4_294_967_296
 }
 
-// Unit row u put at the end of the chain of bucket h.
-fn link(last: &mut [u16; 1024], before: &mut [u16; 600], h: usize, u: usize)
-    requires { ⌜ (h < 1024) × (u < 600) ⌝ }
-    ensures { λ _. ⌜ now (last .exit) ≡ set (now (last .entry)) h (u + 1) ⌝ }
-    ensures { λ _. ⌜ now (before .exit) ≡ set (now (before .entry)) u (getD (now (last .entry)) h 0) ⌝ }
+// The root at which a key starts.
+fn root(key: usize) -> usize
+    requires { ⌜ key < 4_294_967_296 ⌝ }
+    ensures { λ s. ⌜ (s ≡ rootOf key) × (s < 512) ⌝ }
 {
-    before[u] = last[h];
-    last[h] = (u + 1) as u16;
+    key / 8_388_608
 }
 
-// Whether one of the first u unit rows names the account: those of its chain are looked at, from the last on.
-fn in_units(units: &[u8], u: usize, last: &[u16; 1024], before: &[u16; 600], a: u32) -> bool
+// The slot of a child of the row behind a link: the first bit says which.
+fn child(link: usize, bits: usize) -> usize
+    requires { ⌜ (link ≤ 600) × (bits < 4_294_967_296) ⌝ }
+    ensures { λ s. ⌜ s ≡ childOf link bits ⌝ }
+{
+    510 + 2 * link + bits / 2_147_483_648
+}
+
+// The place of an account in the tree of the first u unit rows: the first slot on its way that is empty or has a row of the account.
+fn find(units: &[u8], u: usize, links: &[u16; 1712], a: u32) -> usize
     requires { ⌜ (u ≤ 600) × (u * 20 ≤ length (now units)) ⌝ }
-    requires { ⌜ Chained (unitAccount (unitRow (now units))) u (now last) (now before) ⌝ }
+    requires { ⌜ Grown (unitAccount (unitRow (now units))) u (now links) ⌝ }
+    ensures { λ s. ⌜ s < 512 + 2 * u ⌝ }
+    ensures { λ s. ⌜ Place (unitAccount (unitRow (now (units .entry)))) (now (links .entry)) a s ⌝ }
+{
+    let k = key(a);
+    let mut slot = root(k);
+    let mut bits = k * 512 % 4_294_967_296;
+    let mut link = links[slot] as usize;
+    while 0 < link {
+        if unit_account(units, link - 1) == a {
+            return slot;
+        }
+        slot = child(link, bits);
+        bits = bits * 2 % 4_294_967_296;
+        link = links[slot] as usize;
+    }
+    slot
+}
+
+// Whether one of the first u unit rows names the account.
+fn in_units(units: &[u8], u: usize, links: &[u16; 1712], a: u32) -> bool
+    requires { ⌜ (u ≤ 600) × (u * 20 ≤ length (now units)) ⌝ }
+    requires { ⌜ Grown (unitAccount (unitRow (now units))) u (now links) ⌝ }
     ensures { λ b. ⌜ b ≡ seen (unitAccount (unitRow (now (units .entry)))) u a ⌝ }
 {
-    let mut p = last[bucket(a)] as usize;
-    while 0 < p {
-        if unit_account(units, p - 1) == a {
-            return true;
-        }
-        p = before[p - 1] as usize;
-    }
-    false
+    0 < links[find(units, u, links, a)]
 }
 
-// 1 where no unit row before u names the account of unit row u, else 0. The row is then linked.
-fn new_unit(units: &[u8], u: usize, last: &mut [u16; 1024], before: &mut [u16; 600]) -> usize
+// 1 where no unit row before u names the account of unit row u, which is then put in the tree, else 0.
+fn new_unit(units: &[u8], u: usize, links: &mut [u16; 1712]) -> usize
     requires { ⌜ (u < 600) × ((u + 1) * 20 ≤ length (now units)) ⌝ }
-    requires { ⌜ Chained (unitAccount (unitRow (now units))) u (now last) (now before) ⌝ }
+    requires { ⌜ Grown (unitAccount (unitRow (now units))) u (now links) ⌝ }
     ensures { λ x. ⌜ x ≡ newly (seen (unitAccount (unitRow (now (units .entry)))) u (unitRow (now (units .entry)) u .account)) ⌝ }
-    ensures { λ _. ⌜ Chained (unitAccount (unitRow (now (units .entry)))) (u + 1) (now (last .exit)) (now (before .exit)) ⌝ }
+    ensures { λ _. ⌜ Grown (unitAccount (unitRow (now (units .entry)))) (u + 1) (now (links .exit)) ⌝ }
 {
-    let a = unit_account(units, u);
-    let known = in_units(units, u, last, before, a);
-    link(last, before, bucket(a), u);
-    if known {
+    let slot = find(units, u, links, unit_account(units, u));
+    if 0 < links[slot] {
         return 0;
     }
+    links[slot] = (u + 1) as u16;
     1
 }
 
-// How many accounts the unit rows name. All of them are linked.
-fn unit_accounts(units: &[u8], m: usize, last: &mut [u16; 1024], before: &mut [u16; 600]) -> usize
+// How many accounts the unit rows name. All of them are put in the tree.
+fn unit_accounts(units: &[u8], m: usize, links: &mut [u16; 1712]) -> usize
     requires { ⌜ (m ≤ 600) × (m * 20 ≤ length (now units)) ⌝ }
-    requires { ⌜ Chained (unitAccount (unitRow (now units))) 0 (now last) (now before) ⌝ }
+    requires { ⌜ Grown (unitAccount (unitRow (now units))) 0 (now links) ⌝ }
     ensures { λ c. ⌜ c ≡ length (named (unitAccount (unitRow (now (units .entry)))) m []) ⌝ }
-    ensures { λ _. ⌜ Chained (unitAccount (unitRow (now (units .entry)))) m (now (last .exit)) (now (before .exit)) ⌝ }
+    ensures { λ _. ⌜ Grown (unitAccount (unitRow (now (units .entry)))) m (now (links .exit)) ⌝ }
 {
     let mut count = 0;
     let mut u = 0;
     while u < m {
-        count += new_unit(units, u, last, before);
+        count += new_unit(units, u, links);
         u += 1;
     }
     count
@@ -112,18 +132,17 @@ fn new_energy(
     i: usize,
     units: &[u8],
     m: usize,
-    last: &[u16; 1024],
-    before: &[u16; 600],
+    links: &[u16; 1712],
 ) -> usize
     requires { ⌜ ((n * 24 ≤ length (now energy)) × (i < n)) × ((m ≤ 600) × (m * 20 ≤ length (now units))) ⌝ }
     requires { ⌜ Sorted (energyRow (now energy)) n ⌝ }
-    requires { ⌜ Chained (unitAccount (unitRow (now units))) m (now last) (now before) ⌝ }
+    requires { ⌜ Grown (unitAccount (unitRow (now units))) m (now links) ⌝ }
     ensures { λ x. ⌜ x ≡ newly (has (energyRow (now (energy .entry)) i .account) (named (energyAccount (energyRow (now (energy .entry)))) i (named (unitAccount (unitRow (now (units .entry)))) m []))) ⌝ }
 {
     if goes_on(energy, n, i) {
         return 0;
     }
-    if in_units(units, m, last, before, energy_account(energy, i)) {
+    if in_units(units, m, links, energy_account(energy, i)) {
         return 0;
     }
     1
@@ -135,12 +154,11 @@ pub fn all_accounts(energy: &[u8], n: usize, units: &[u8], m: usize) -> usize
     requires { ⌜ Sorted (energyRow (now energy)) n ⌝ }
     ensures { λ c. ⌜ (c ≡ length (accountsIn (energyRow (now (energy .entry))) n (unitRow (now (units .entry))) m)) × (c ≤ 1624) ⌝ }
 {
-    let mut last = [0u16; 1024];
-    let mut before = [0u16; 600];
-    let mut count = unit_accounts(units, m, &mut last, &mut before);
+    let mut links = [0u16; 1712];
+    let mut count = unit_accounts(units, m, &mut links);
     let mut i = 0;
     while i < n {
-        count += new_energy(energy, n, i, units, m, &last, &before);
+        count += new_energy(energy, n, i, units, m, &links);
         i += 1;
     }
     count

@@ -1,11 +1,9 @@
--- The accounts of a book, and what a part of a pool that is shared by energy comes to over all of them.
+-- The accounts of a book, each once.
 use Prim.Native.Nat.{ℕ}
 use mathlib.Core.List.{List, []}
 use Rattle.records.specs.declared.rows.UnitRow.{UnitRow}
 use Rattle.records.specs.declared.rows.EnergyRow.{EnergyRow}
 use Rattle.sharing.specs.Once.{named}
-
--- ---- accounts
 
 abbrev pub energyAccount : (ℕ → EnergyRow) → ℕ → ℕ
 energyAccount energy i = energy i .account

@@ -3,4 +3,3 @@ pub mod Seen
 pub mod Shares
 pub mod Within
 pub mod Groups
-pub mod Chains

@@ -1,3 +1,3 @@
 pub mod Once
-pub mod Parties
+pub mod Accounts
 pub mod Inner

@@ -1,7 +1,8 @@
 -- `census::goes_on` meets its contract. In rows in order, the row before tells whether an account was seen. Assumes nothing.
 use native.Mathlib.Omega.{arith}
 use borrow.Author.Needs.{needs}
-use Rattle.census.proofs.Counting.{in-order, on-start, on-told}
+use Rattle.sharing.proofs.InOrder.{in-order}
+use Rattle.census.proofs.Counting.{on-start, on-told}
 use Rattle.census.proofs.goes_on.Statement.{statement}
 use Rattle.census.proofs.goes_on.Tie as tie
 

@@ -1,4 +1,4 @@
--- `census::unit_accounts` meets its contract. The invariant: the rows so far stand in their chains, and the count is the number of their accounts. The measure is what is left. Assumes nothing.
+-- `census::unit_accounts` meets its contract. The invariant: the rows so far stand in the tree, and the count is the number of their accounts. The measure is what is left. Assumes nothing.
 use Prim.Native.Nat.{_≤_, _-_}
 use mathlib.Core.Path.{_≡_}
 use mathlib.Core.List.{[]}
@@ -6,7 +6,7 @@ use native.Mathlib.Omega.{arith}
 use borrow.Author.Needs.{needs}
 use lib.ListN.{length}
 use Rattle.records.specs.Rows.{unitRow}
-use Rattle.census.specs.Inner.Tree.{Chained}
+use Rattle.census.specs.Inner.Tree.{Grown}
 use Rattle.sharing.specs.Once.{named}
 use Rattle.sharing.specs.Accounts.{unitAccount}
 use Rattle.census.proofs.Counting.{count-none, count-seen, count-few}
@@ -14,10 +14,10 @@ use Rattle.census.proofs.unit_accounts.Statement.{statement}
 use Rattle.census.proofs.unit_accounts.Tie as tie
 
 abbrev Inv-loop : tie.InvT-loop
-Inv-loop units m last₀ before₀ count₀ u₀ last before count u = (u ≤ m) × ((count ≡ length (named (unitAccount (unitRow units)) u [])) × Chained (unitAccount (unitRow units)) u last before)
+Inv-loop units m links₀ count₀ u₀ links count u = (u ≤ m) × ((count ≡ length (named (unitAccount (unitRow units)) u [])) × Grown (unitAccount (unitRow units)) u links)
 
 abbrev μ-loop : tie.MeasureT-loop
-μ-loop units m last₀ before₀ count₀ u₀ last before count u = m - u
+μ-loop units m links₀ count₀ u₀ links count u = m - u
 
 loop-holds : tie.Need-loop-holds Inv-loop μ-loop
 loop-holds c = (search needs, (count-none _ _, c .before .pre .1))
@@ -26,7 +26,7 @@ new-unit-requires : tie.Need-new-unit-requires Inv-loop μ-loop
 new-unit-requires c κs = search needs
 
 loop-again : tie.Need-loop-again Inv-loop μ-loop
-loop-again c = (search needs, (count-seen _ _ (c .before .before .before .before .loop .inv .1 .0) (c .new-unit .ensures .0), c .new-unit .ensures .1))
+loop-again c = (search needs, (count-seen _ _ (c .before .before .before .loop .inv .1 .0) (c .new-unit .ensures .0), c .new-unit .ensures .1))
 
 add-count : tie.Need-add-count Inv-loop μ-loop
 add-count c = omega (arith, count-few _ _ _ (loop-again c .1 .0))

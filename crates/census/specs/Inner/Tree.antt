@@ -1,22 +1,57 @@
--- A hash table of records by their names, with a chain for each bucket: two that give the same name stand in the same chain.
-use Prim.Native.Nat.{ℕ, _+_, _*_, _/_, _%_, _≤_, _<_}
+-- A tree of records by their names, in one list of links. A link is the number of a record and 1 more, or 0 where it is empty. The first 512
+-- slots are the roots; slots 512 + 2 p and 513 + 2 p are the children of record p. The bits of a name's key lead from a root down.
+use Prim.Native.Nat.{ℕ, zero, suc, _+_, _*_, _-_, _/_, _%_, _≤_, _<_}
 use mathlib.Core.Path.{_≡_}
 use mathlib.Core.List.{List}
 use lib.ListN.{length, getD}
 
--- the hash of a name, which is its bucket: the product with an odd number spreads names that lie close
-unfoldable pub bucketOf : ℕ → ℕ
-bucketOf a = (a * 2_654_435_761 / 4_194_304) % 1024
+-- the key of a name, 32 bits: the product with an odd number spreads names that lie close, and no two below 2^32 have the same
+abbrev pub keyOf : ℕ → ℕ
+keyOf a = a * 2_654_435_761 % 4_294_967_296
 
--- p is the place behind the last of the records 0 .. u - 1 in bucket h, or 0 where there is none
-pub record Last (name : ℕ → ℕ) (u h p : ℕ) : Type 0 where
-  pub within : p ≤ u
-  pub own : (k : ℕ) → p ≡ k + 1 → bucketOf (name k) ≡ h
-  pub rest : (k : ℕ) → p ≤ k → k < u → bucketOf (name k) ≡ h → ⊥
+-- the root at which a key starts: its first 9 bits
+abbrev pub rootOf : ℕ → ℕ
+rootOf key = key / 8_388_608
 
--- the records 0 .. u - 1 in chains: for each bucket the last of its records, and for each record the one of its bucket before it
-pub record Chained (name : ℕ → ℕ) (u : ℕ) (last before : List ℕ) : Type 0 where
-  pub buckets : length last ≡ 1024
-  pub places : length before ≡ 600
-  pub ends : (h : ℕ) → h < 1024 → Last name u h (getD last h 0)
-  pub links : (j : ℕ) → j < u → Last name j (bucketOf (name j)) (getD before j 0)
+-- the bits of a name's key that are left after the root and d children
+unfoldable pub bitsAt : ℕ → ℕ → ℕ
+bitsAt a zero = keyOf a * 512 % 4_294_967_296
+bitsAt a (suc d) = bitsAt a d * 2 % 4_294_967_296
+
+-- the child to which bits lead from the record of a link: the first of them says which
+abbrev pub childOf : ℕ → ℕ → ℕ
+childOf link bits = 510 + 2 * link + bits / 2_147_483_648
+
+-- the slot to which a name leads after d children
+unfoldable pub slotAt : List ℕ → ℕ → ℕ → ℕ
+slotAt links a zero = rootOf (keyOf a)
+slotAt links a (suc d) = childOf (getD links (slotAt links a d) 0) (bitsAt a d)
+
+-- the link there
+abbrev pub linkAt : List ℕ → ℕ → ℕ → ℕ
+linkAt links a d = getD links (slotAt links a d) 0
+
+-- a link to a record of another name
+pub record Another (name : ℕ → ℕ) (a link : ℕ) : Type 0 where
+  pub filled : 0 < link
+  pub other : name (link - 1) ≡ a → ⊥
+
+-- s is the place of the name a: the first slot on its way that is empty or has a record of that name
+pub record Place (name : ℕ → ℕ) (links : List ℕ) (a s : ℕ) : Type 0 where
+  pub depth : ℕ
+  pub here : s ≡ slotAt links a depth
+  pub passed : (e : ℕ) → e < depth → Another name a (linkAt links a e)
+  pub own : 0 < getD links s 0 → name (getD links s 0 - 1) ≡ a
+
+-- the way of the name a comes to a record of that name, over no empty link
+pub record Found (name : ℕ → ℕ) (links : List ℕ) (a : ℕ) : Type 0 where
+  pub depth : ℕ
+  pub filled : (e : ℕ) → e ≤ depth → 0 < linkAt links a e
+  pub own : name (linkAt links a depth - 1) ≡ a
+
+-- the tree of the records 0 .. u - 1: each name is found, and a link stands before the children of its record
+pub record Grown (name : ℕ → ℕ) (u : ℕ) (links : List ℕ) : Type 0 where
+  pub slots : length links ≡ 1712
+  pub rows : (s : ℕ) → getD links s 0 ≤ u
+  pub rises : (s : ℕ) → 0 < getD links s 0 → s < 510 + 2 * getD links s 0
+  pub found : (j : ℕ) → j < u → Found name links (name j)
