@@ -33,7 +33,7 @@ use Rattle.statement.proofs.Lent.{lent-refused}
 use Rattle.statement.proofs.Lines.{statement-length}
 use Rattle.lines.specs.Limit.{anyOver}
 use Rattle.settlement.specs.Settle.{linesOf, headingOf, statementOf, settled, outcomeIf, outcome}
-use Rattle.walk.specs.Inner.Walks.{conLinesAt, contractLinesAt, bookLines}
+use Rattle.lines.specs.Inner.Walks.{conLinesAt, contractLinesAt, bookLines}
 use Rattle.settlement.specs.Inner.Owned.{wholeOf, Fits, Owned}
 use Rattle.count.specs.Inner.Counts.{BookCounted}
 use Rattle.settlement.specs.Inner.Limits.{bookOver}

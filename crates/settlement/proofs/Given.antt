@@ -18,7 +18,7 @@ use Rattle.totals.proofs.Turns.{share-small}
 use Rattle.book.specs.Book.{Book}
 use Rattle.book.specs.Inner.Accepted.{AtMostEntry, Promise}
 use Rattle.lines.specs.Inner.Shared.{Shared}
-use Rattle.walk.specs.Inner.Walks.{Ready, ContractSettles}
+use Rattle.lines.specs.Inner.Walks.{Ready, ContractSettles}
 use Rattle.walk.proofs.Order.{rises-once}
 use Rattle.count.specs.Inner.Counts.{Countable}
 

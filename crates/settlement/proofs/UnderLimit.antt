@@ -20,7 +20,7 @@ use Rattle.book.specs.declared.header.Header.{Header}
 use Rattle.book.specs.Inner.Accepted.{Promise}
 use Rattle.lines.specs.Limit.{anyOver}
 use Rattle.lines.proofs.Limit.{Within, none-over, contingency-within, unit-within, rest-within, halves-within}
-use Rattle.walk.specs.Inner.Walks.{bookLines, Walkable}
+use Rattle.lines.specs.Inner.Walks.{bookLines, Walkable}
 use Rattle.settlement.specs.Inner.Limits.{constraintOver, contractOver, bookOver}
 use Rattle.settlement.proofs.EachLine.{EachKind, each-line}
 

@@ -18,10 +18,10 @@ use Rattle.statement.specs.declared.Line.{Line}
 use Rattle.statement.specs.declared.Written.the-variants.{Length, Refused}
 use Rattle.statement.proofs.Lines.{heading-length, lines-length, statement-length}
 use Rattle.statement.proofs.Lent as lent
-use Rattle.lines.specs.Inner.Emitted.{Emitted}
+use Rattle.writing.specs.Inner.Emitted.{Emitted}
 use Rattle.lines.specs.Limit.{anyOver}
 use Rattle.settlement.specs.Settle.{linesOf, headingOf, statementOf, settled}
-use Rattle.walk.specs.Inner.Walks.{bookLines}
+use Rattle.lines.specs.Inner.Walks.{bookLines}
 use Rattle.settlement.specs.Inner.Owned.{wholeOf}
 
 -- ---- written

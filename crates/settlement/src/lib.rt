@@ -16,7 +16,7 @@ ghost use Rattle.accounts.specs.Account.{publicOf, rowsOfAccount};
 ghost use Rattle.statement.specs.Lent.{Lent};
 ghost use Rattle.totals.specs.declared.entries.Totals.{Totals};
 ghost use Rattle.settlement.specs.Settle.{settled, outcome};
-ghost use Rattle.walk.specs.Inner.Walks.{bookLines, Walkable};
+ghost use Rattle.lines.specs.Inner.Walks.{bookLines, Walkable};
 ghost use Rattle.settlement.specs.Inner.Owned.{wholeOf, Fits, Owned};
 use book::header;
 use book::header::Header;

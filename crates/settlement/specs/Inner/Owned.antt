@@ -11,7 +11,7 @@ use Rattle.accounts.specs.Account.{publicOf, rowsOfAccount, unknown}
 use Rattle.book.specs.Book.{Book}
 use Rattle.statement.specs.Statement.{statementBytes}
 use Rattle.statement.specs.declared.Line.{Line}
-use Rattle.walk.specs.Inner.Walks.{bookLines, Walkable}
+use Rattle.lines.specs.Inner.Walks.{bookLines, Walkable}
 use Rattle.settlement.specs.Settle.{linesOf, headingOf}
 
 -- what is known of an account that a row of the book names, once its own energy is read

@@ -1,0 +1,5 @@
+pub mod Emission
+pub mod Loops
+pub mod UnitRuns
+pub mod OneConstraint
+pub mod Regions
