@@ -38,7 +38,7 @@ module _ (r : Constraint) (o t : ℕ) where
   unfolding eachOf
   single z = rw (ne-eqb (r .mode) 1 (λ (q : r .mode ≡ 1). omega arith))
 
-  other-length : length (otherLines r o t) ≡ eachOf r
+  pub other-length : length (otherLines r o t) ≡ eachOf r
   unfolding otherLines
   other-length =
       ⊎-elim
@@ -46,15 +46,11 @@ module _ (r : Constraint) (o t : ℕ) where
       (λ (d : r .mode ≡ 0 → ⊥). rw (ne-eqb _ _ d) (rest-length r (residualPools r (poolsOf r)) o t))
       (is-zero (r .mode))
 
-  module _ (i : ℕ) {k : ℕ} (e : k ≡ eachOf r) where
-    pub in-others : i < k → i < length (otherLines r o t)
-    in-others l = omega (arith, other-length)
-
-    pub past-others : k ≤ i → Answers (otherLines r o t) i (numbered.Past (i - k))
-    unfolding Answers
-    past-others l =
-        let m : i - length (otherLines r o t) ≡ i - k = omega (arith, other-length) in
-        nth-past (otherLines r o t) i (omega (arith, other-length)) ∙ ap past m
+  pub past-others : (i : ℕ) {k : ℕ} → k ≡ eachOf r → k ≤ i → Answers (otherLines r o t) i (numbered.Past (i - k))
+  unfolding Answers
+  past-others i {k} e l =
+      let m : i - length (otherLines r o t) ≡ i - k = omega (arith, other-length) in
+      nth-past (otherLines r o t) i (omega (arith, other-length)) ∙ ap past m
 
   module _ (i : ℕ) (l : i < length (otherLines r o t)) where
     pub other-plain : {x : Line} → r .mode ≡ 0 → x ≡ contingencyLine r o t → nth (otherLines r o t) i ≡ found x

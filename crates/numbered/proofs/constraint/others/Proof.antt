@@ -1,6 +1,10 @@
 -- `numbered::constraint::others` meets its contract. There are as many as the mode says. Assumes nothing.
+use native.Mathlib.Omega.{arith}
+use Rattle.records.specs.Rows.{entryRow}
+use Rattle.totals.specs.Divisors.{overRegions}
+use Rattle.totals.specs.Inner.Totals.{entryOf}
 use Rattle.numbered.specs.Inner.Sought.{Answers}
-use Rattle.numbered.proofs.OneConstraint.{in-others, past-others}
+use Rattle.numbered.proofs.OneConstraint.{other-length, past-others}
 use borrow.Author.Needs.{needs}
 use Rattle.numbered.proofs.constraint.others.Statement.{statement}
 use Rattle.numbered.proofs.constraint.others.Tie as tie
@@ -9,7 +13,7 @@ lines-each-requires : tie.Need-lines-each-requires
 lines-each-requires c κs = search needs
 
 other-line-requires : tie.Need-other-line-requires
-other-line-requires c κs = let s = c .before .before .before in (s .pre .0, (s .pre .1, in-others _ _ _ _ (c .before .lines-each .ensures .0) (c .if1 .taken)))
+other-line-requires c κs = let s = c .before .before .before in (s .pre .0, (s .pre .1, omega (arith, c .if1 .taken, c .before .lines-each .ensures .0, other-length (s .args .r) (overRegions (entryOf (s .args .own)) (s .args .r)) (overRegions (entryRow (s .args .regions .now)) (s .args .r)))))
 
 returns : tie.Need-returns
 unfolding Answers

@@ -1,10 +1,9 @@
--- `settlement::write` meets its contract. The lines are written behind the header's place, and then the header. Assumes nothing.
+-- `whole::write` meets its contract. The lines are written behind the header's place, and then the header. Assumes nothing.
 use Rattle.book.specs.Book.{bookIn}
-use Rattle.accounts.specs.Account.{publicOf}
-use Rattle.settlement.proofs.Whole.{whole-out}
+use Rattle.whole.proofs.Written.{whole-out}
 use borrow.Author.Needs.{needs}
-use Rattle.settlement.proofs.write.Statement.{statement}
-use Rattle.settlement.proofs.write.Tie as tie
+use Rattle.whole.proofs.write.Statement.{statement}
+use Rattle.whole.proofs.write.Tie as tie
 
 all-lines-requires : tie.Need-all-lines-requires
 all-lines-requires c κs = search needs
@@ -22,7 +21,6 @@ same-length : tie.Need-same-length
 same-length c = search needs
 
 returns : tie.Need-returns
-unfolding publicOf
 returns c = whole-out (bookIn (c .before .before .before .before .before .before .before .before .before .before .args .book .now) (c .before .before .before .before .before .before .before .before .before .before .args .h)) (c .before .before .before .before .before .before .before .before .before .before .args .own) _ (c .before .before .before .before .before .before .all-lines .ensures) (c .before .before .put-heading .ensures)
 
 pub write-spec : {M : Type 1} → statement M

@@ -9,7 +9,7 @@ ghost use Rattle.records.specs.Inner.Facts.{ConstraintRule};
 ghost use Rattle.book.specs.Book.{bookIn};
 ghost use Rattle.book.specs.Inner.Facts.{Laid};
 ghost use Rattle.book.specs.Inner.Accepted.{Promise};
-ghost use Rattle.settlement.specs.Inner.Limits.{constraintOver, contractOver, bookOver};
+ghost use Rattle.limit.specs.Inner.Limits.{constraintOver, contractOver, bookOver};
 use amounts::pools;
 use book::header::Header;
 use records::rows;
@@ -51,7 +51,7 @@ fn contracts(contracts: &[u8], n: usize) -> bool
 }
 
 // Whether a pool of the book passes the limit.
-pub(crate) fn passed(book: &[u8], h: Header) -> bool
+pub fn passed(book: &[u8], h: Header) -> bool
     requires { ⌜ Laid (now book) h ⌝ }
     requires { ⌜ Promise (bookIn (now book) h) ⌝ }
     ensures { λ b. ⌜ b ≡ bookOver (bookIn (now (book .entry)) h) ⌝ }

@@ -1,13 +1,13 @@
--- `settlement::limit::contracts` meets its contract. The invariant: whether one of the records so far passes the limit. The measure is what is left. Assumes nothing.
+-- `limit::contracts` meets its contract. The invariant: whether one of the records so far passes the limit. The measure is what is left. Assumes nothing.
 use Prim.Native.Nat.{_≤_, _-_}
 use mathlib.Core.Path.{_≡_}
 use native.Mathlib.Omega.{arith}
 use Rattle.sections.specs.Search.{some}
 use Rattle.records.specs.Rows.{contractRow}
-use Rattle.settlement.specs.Inner.Limits.{contractOver}
-use Rattle.settlement.proofs.UnderLimit.{some-start, some-more, some-all}
-use Rattle.settlement.proofs.limit.contracts.Statement.{statement}
-use Rattle.settlement.proofs.limit.contracts.Tie as tie
+use Rattle.limit.specs.Inner.Limits.{contractOver}
+use Rattle.limit.proofs.UnderLimit.{some-start, some-more, some-all}
+use Rattle.limit.proofs.contracts.Statement.{statement}
+use Rattle.limit.proofs.contracts.Tie as tie
 
 abbrev Inv-loop : tie.InvT-loop
 Inv-loop contracts n over₀ i₀ over i = (i ≤ n) × (over ≡ some (λ i. contractOver (contractRow contracts i)) i)

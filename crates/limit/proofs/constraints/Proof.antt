@@ -1,13 +1,13 @@
--- `settlement::limit::constraints` meets its contract. The invariant: whether one of the records so far passes the limit. The measure is what is left. Assumes nothing.
+-- `limit::constraints` meets its contract. The invariant: whether one of the records so far passes the limit. The measure is what is left. Assumes nothing.
 use Prim.Native.Nat.{_≤_, _-_}
 use mathlib.Core.Path.{_≡_}
 use native.Mathlib.Omega.{arith}
 use Rattle.sections.specs.Search.{some}
 use Rattle.records.specs.Rows.{constraintRow}
-use Rattle.settlement.specs.Inner.Limits.{constraintOver}
-use Rattle.settlement.proofs.UnderLimit.{some-start, some-more, some-all}
-use Rattle.settlement.proofs.limit.constraints.Statement.{statement}
-use Rattle.settlement.proofs.limit.constraints.Tie as tie
+use Rattle.limit.specs.Inner.Limits.{constraintOver}
+use Rattle.limit.proofs.UnderLimit.{some-start, some-more, some-all}
+use Rattle.limit.proofs.constraints.Statement.{statement}
+use Rattle.limit.proofs.constraints.Tie as tie
 
 abbrev Inv-loop : tie.InvT-loop
 Inv-loop cons n over₀ j₀ over j = (j ≤ n) × (over ≡ some (λ j. constraintOver (constraintRow cons j)) j)

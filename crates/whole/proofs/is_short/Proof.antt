@@ -1,10 +1,10 @@
--- `settlement::is_short` meets its contract. There is room for the most lines that there can be, or the lines are counted. Assumes nothing.
+-- `whole::is_short` meets its contract. There is room for the most lines that there can be, or the lines are counted. Assumes nothing.
 use Rattle.book.specs.Book.{bookIn}
-use Rattle.settlement.proofs.Given.{countable-of}
-use Rattle.settlement.proofs.Ends.{room-for-all, short-counted}
+use Rattle.whole.proofs.Given.{countable-of}
+use Rattle.whole.proofs.Lengths.{room-for-all, short-counted}
 use borrow.Author.Needs.{needs}
-use Rattle.settlement.proofs.is_short.Statement.{statement}
-use Rattle.settlement.proofs.is_short.Tie as tie
+use Rattle.whole.proofs.is_short.Statement.{statement}
+use Rattle.whole.proofs.is_short.Tie as tie
 
 most-lines-requires : tie.Need-most-lines-requires
 most-lines-requires c κs = search needs

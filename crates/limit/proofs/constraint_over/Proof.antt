@@ -1,8 +1,8 @@
--- `settlement::limit::constraint_over` meets its contract. The FPP pool is the definition's. Assumes nothing.
+-- `limit::constraint_over` meets its contract. The FPP pool is the definition's. Assumes nothing.
 use borrow.Author.Needs.{needs}
-use Rattle.settlement.specs.Inner.Limits.{constraintOver}
-use Rattle.settlement.proofs.limit.constraint_over.Statement.{statement}
-use Rattle.settlement.proofs.limit.constraint_over.Tie as tie
+use Rattle.limit.specs.Inner.Limits.{constraintOver}
+use Rattle.limit.proofs.constraint_over.Statement.{statement}
+use Rattle.limit.proofs.constraint_over.Tie as tie
 
 pools-of-requires : tie.Need-pools-of-requires
 pools-of-requires c κs = search needs

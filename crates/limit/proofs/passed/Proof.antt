@@ -1,8 +1,8 @@
--- `settlement::limit::passed` meets its contract. The constraints, and then the contracts. Assumes nothing.
-use Rattle.settlement.proofs.UnderLimit.{book-over}
+-- `limit::passed` meets its contract. The constraints, and then the contracts. Assumes nothing.
+use Rattle.limit.proofs.UnderLimit.{book-over}
 use borrow.Author.Needs.{needs}
-use Rattle.settlement.proofs.limit.passed.Statement.{statement}
-use Rattle.settlement.proofs.limit.passed.Tie as tie
+use Rattle.limit.proofs.passed.Statement.{statement}
+use Rattle.limit.proofs.passed.Tie as tie
 
 contracts-at-requires : tie.Need-contracts-at-requires
 contracts-at-requires c κs = search needs

@@ -21,8 +21,8 @@ use Rattle.book.specs.Inner.Accepted.{Promise}
 use Rattle.lines.specs.Limit.{anyOver}
 use Rattle.lines.proofs.Limit.{Within, none-over, contingency-within, unit-within, rest-within, halves-within}
 use Rattle.lines.specs.Inner.Walks.{bookLines, Walkable}
-use Rattle.settlement.specs.Inner.Limits.{constraintOver, contractOver, bookOver}
-use Rattle.settlement.proofs.EachLine.{EachKind, each-line}
+use Rattle.limit.specs.Inner.Limits.{constraintOver, contractOver, bookOver}
+use Rattle.lines.proofs.EachLine.{EachKind, each-line}
 
 -- a loop over records that looks for one that passes a test
 module _ (p : ℕ → Bool) where
