@@ -66,13 +66,7 @@ fn in_constraints(
 }
 
 // The line of a number among those of the n contracts.
-fn in_contracts(
-    regions: &[u8],
-    contracts: &[u8],
-    n: usize,
-    own: Totals,
-    number: usize,
-) -> Numbered
+fn in_contracts(regions: &[u8], contracts: &[u8], n: usize, own: Totals, number: usize) -> Numbered
     requires { ⌜ (60 ≤ length (now regions)) × (n * 36 ≤ length (now contracts)) ⌝ }
     requires { ⌜ ((k : ℕ) → k < n → ContractSettles (entryRow (now regions)) (contractRow (now contracts) k) own) ⌝ }
     ensures { λ x. ⌜ Answers (joined (contractLinesAt (entryRow (now (regions .entry))) (entryOf own) (contractRow (now (contracts .entry)))) n) number x ⌝ }

@@ -43,7 +43,13 @@ fn region_lines(
 }
 
 // A contract's lines, its regions rising.
-pub fn contract_lines(buf: &mut [u8], place: usize, regions: &[u8], k: Contract, own: Totals) -> usize
+pub fn contract_lines(
+    buf: &mut [u8],
+    place: usize,
+    regions: &[u8],
+    k: Contract,
+    own: Totals,
+) -> usize
     requires { ⌜ 60 ≤ length (now regions) ⌝ }
     requires { ⌜ ContractSettles (entryRow (now regions)) k own ⌝ }
     requires { ⌜ LineRoom (now buf) place (length (joined (regionLines (entryRow (now regions)) (entryOf own) k) 5)) ⌝ }

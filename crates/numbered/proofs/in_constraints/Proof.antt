@@ -31,11 +31,16 @@ constraint-row-requires c κs = omega arith
 constraint-line-requires : tie.Need-constraint-line-requires Inv-loop μ-loop
 constraint-line-requires c κs =
     let s = c .before .before .before .before .before .before in
-    let l = c .before .loop-test .taken in
-    ((s .pre .0 .0, s .pre .0 .1 .1),
-    (s .pre .1 .walked,
-    (rw (c .constraint-row .ensures) (c .before .before .loop .inv .1 .1 l),
-    (rests-at _ _ _ _ _ _ (s .pre .1) _ l (c .constraint-row .ensures), bare-at _ _ _ _ _ _ (s .pre .1) _ l (c .constraint-row .ensures)))))
+    let l = c .before .loop-test .taken in (
+      (s .pre .0 .0, s .pre .0 .1 .1),
+      (
+        s .pre .1 .walked,
+        (
+          rw (c .constraint-row .ensures) (c .before .before .loop .inv .1 .1 l),
+          (rests-at _ _ _ _ _ _ (s .pre .1) _ l (c .constraint-row .ensures), bare-at _ _ _ _ _ _ (s .pre .1) _ l (c .constraint-row .ensures)),
+        ),
+      ),
+    )
 
 enum-known-line : tie.Need-enum-known-line Inv-loop μ-loop
 enum-known-line c = search needs

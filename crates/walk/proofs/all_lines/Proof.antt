@@ -51,10 +51,13 @@ constraints-requires : tie.Need-constraints-requires
 constraints-requires c κs =
     let k = c .before .before .before .before .before .before in
     let u = k .before in
-    let s = u .before .before .before in
-    ((entries-room _ _ (s .pre .0), (constraints-room _ _ (s .pre .0), units-room _ _ (s .pre .0) _ (u .units-at .ensures))),
-    (ready-at (s .args .book .now) (s .args .h) (s .args .account) (s .args .own) _ (u .units-at .ensures) (s .pre .1 .0),
-    first-room (s .args .book .now) (s .args .h) (s .args .account) (s .args .own) _ _ (u .units-at .ensures) (k .contracts-at .ensures) (s .pre .1 .1)))
+    let s = u .before .before .before in (
+      (entries-room _ _ (s .pre .0), (constraints-room _ _ (s .pre .0), units-room _ _ (s .pre .0) _ (u .units-at .ensures))),
+      (
+        ready-at (s .args .book .now) (s .args .h) (s .args .account) (s .args .own) _ (u .units-at .ensures) (s .pre .1 .0),
+        first-room (s .args .book .now) (s .args .h) (s .args .account) (s .args .own) _ _ (u .units-at .ensures) (k .contracts-at .ensures) (s .pre .1 .1),
+      ),
+    )
 
 sub-contracts : tie.Need-sub-contracts
 sub-contracts c = search needs
@@ -82,10 +85,13 @@ contracts-requires c κs =
     let o = c .before .before .before .before .before .before in
     let k = o .before .before .before .before .before .before .before in
     let u = k .before in
-    let s = u .before .before .before in
-    ((entries-room _ _ (s .pre .0), contracts-room _ _ (s .pre .0) _ (k .contracts-at .ensures)),
-    (payable-at (s .args .book .now) (s .args .h) (s .args .account) (s .args .own) _ (k .contracts-at .ensures) (s .pre .1 .0),
-    second-room (s .args .book .now) (s .args .h) (s .args .account) (s .args .own) _ _ (u .units-at .ensures) (k .contracts-at .ensures) (o .constraints .ensures) (s .pre .1 .1)))
+    let s = u .before .before .before in (
+      (entries-room _ _ (s .pre .0), contracts-room _ _ (s .pre .0) _ (k .contracts-at .ensures)),
+      (
+        payable-at (s .args .book .now) (s .args .h) (s .args .account) (s .args .own) _ (k .contracts-at .ensures) (s .pre .1 .0),
+        second-room (s .args .book .now) (s .args .h) (s .args .account) (s .args .own) _ _ (u .units-at .ensures) (k .contracts-at .ensures) (o .constraints .ensures) (s .pre .1 .1),
+      ),
+    )
 
 same-length : tie.Need-same-length
 same-length c = emitted-length _ (c .before .before .contracts .ensures) ∙ emitted-length _ (c .before .before .before .before .before .before .before .before .before .constraints .ensures)
