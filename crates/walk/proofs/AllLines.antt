@@ -11,8 +11,8 @@ use Rattle.book.specs.Header.{unitsFrom, contractsFrom}
 use Rattle.book.specs.declared.header.Header.{Header}
 use Rattle.lines.specs.Inner.Walks.{bookLines}
 use Rattle.lines.proofs.Parts.{conPart, paidPart, both-parts}
-use Rattle.writing.specs.Inner.Emitted.{Emitted, LineRoom}
-use Rattle.writing.proofs.Emission.{emitted-more, room-less, room-rest}
+use Rattle.emission.specs.Inner.Emitted.{Emitted, LineRoom}
+use Rattle.emission.proofs.Emission.{emitted-more, room-less, room-rest}
 
 module _ (b : List ℕ) (h : Header) (account : ℕ) (own : Totals) (u k : ℕ) (e : u ≡ unitsFrom h) (f : k ≡ contractsFrom h) where
   count : length (conPart b h account own u) + length (paidPart b h account own k) ≡ length (bookLines (bookIn b h) account own)

@@ -13,30 +13,24 @@ use Rattle.totals.specs.declared.entries.Totals.{Totals}
 use Rattle.accounts.specs.Rows.{joined}
 use Rattle.lines.specs.Lines.{regionLines}
 use Rattle.lines.specs.Inner.Walks.{conLines, Settles, conLinesAt, Ready, contractLinesAt}
-use Rattle.writing.specs.Inner.Emitted.{Emitted, LineRoom}
-use Rattle.writing.specs.Inner.Done.{LinesDone}
-use Rattle.writing.specs.declared.constraint.Cursor.{Cursor}
+use Rattle.emission.specs.Inner.Emitted.{Emitted, LineRoom}
+use Rattle.units.specs.Inner.Done.{LinesDone}
+use Rattle.units.specs.declared.Cursor.{Cursor}
 
--- ---- constraints; r is constraint j, and total what it divides by
+-- ---- constraints; r is constraint j, o the account's energy over its regions and t that of all
 
-module _ (entry : ℕ → Entry) (con : ℕ → Constraint) (n : ℕ) (unit : ℕ → UnitRow) (m account : ℕ) (own : Totals) (j : ℕ) {r : Constraint} {total : ℕ} (e : r ≡ con j) (d : total ≡ overRegions entry r) where
-  pub settles-at : Ready entry con n unit m own → j < n → Settles unit m r own total
-  settles-at h l =
-      record {
-        rule = rw e (h .rules j l);
-        bare = rw e (h .bare j l);
-        energy = h .energy;
-        shared = rw (d, e) (h .shared j l);
-      }
+module _ (entry : ℕ → Entry) (con : ℕ → Constraint) (n : ℕ) (unit : ℕ → UnitRow) (m account : ℕ) (own : Totals) (j : ℕ) {r : Constraint} {o t : ℕ} (e : r ≡ con j) (c : o ≡ overRegions (entryOf own) r) (d : t ≡ overRegions entry r) where
+  pub settles-at : Ready entry con n unit m own → j < n → Settles unit m r o t
+  settles-at h l = record { rule = rw e (h .rules j l); bare = rw e (h .bare j l); shared = rw (c, d, e) (h .shared j l) }
 
-  lines-at : conLines unit m account r (overRegions (entryOf own) r) total ≡ conLinesAt entry con unit m account own j
+  lines-at : conLines unit m account r o t ≡ conLinesAt entry con unit m account own j
   unfolding conLinesAt
-  lines-at = rw (d, e)
+  lines-at = rw (c, d, e)
 
-  pub con-room : {l : List ℕ} {t : ℕ} → LineRoom l t (length (conLinesAt entry con unit m account own j)) → LineRoom l t (length (conLines unit m account r (overRegions (entryOf own) r) total))
+  pub con-room : {l : List ℕ} {k : ℕ} → LineRoom l k (length (conLinesAt entry con unit m account own j)) → LineRoom l k (length (conLines unit m account r o t))
   con-room h = rw lines-at h
 
-  pub con-out : {l : List ℕ} {t : ℕ} {b : List ℕ} {x : Cursor} → LinesDone unit m r (conLines unit m account r (overRegions (entryOf own) r) total) l t b x → Emitted l t (conLinesAt entry con unit m account own j) b (x .place)
+  pub con-out : {l : List ℕ} {k : ℕ} {b : List ℕ} {x : Cursor} → LinesDone unit m r (conLines unit m account r o t) l k b x → Emitted l k (conLinesAt entry con unit m account own j) b (x .place)
   con-out h = rw lines-at at (h .out)
 
 -- ---- contract i

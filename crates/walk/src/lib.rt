@@ -5,15 +5,15 @@ ghost use Rattle.records.specs.Rows.{entryRow, constraintRow, unitRow, contract
 ghost use Rattle.totals.specs.Inner.Totals.{entryOf};
 ghost use Rattle.accounts.specs.Rows.{joined};
 ghost use Rattle.lines.specs.Inner.Walks.{conLinesAt, contractLinesAt, bookLines, Ready, ContractSettles, Walkable};
-ghost use Rattle.writing.specs.Inner.Emitted.{Emitted, LineRoom};
+ghost use Rattle.emission.specs.Inner.Emitted.{Emitted, LineRoom};
 ghost use Rattle.book.specs.Book.{bookIn};
 ghost use Rattle.book.specs.Inner.Facts.{Laid};
 use book::header::Header;
 use records::rows;
 use totals::divisors;
 use totals::entries::Totals;
-use writing::constraint;
-use writing::contract;
+use units::Cursor;
+use units::Share;
 
 // The lines of the n constraints. The cursor over the unit rows only moves forward.
 fn constraints(
@@ -33,18 +33,18 @@ fn constraints(
     ensures { λ x. ⌜ Emitted (now (buf .entry)) place (joined (conLinesAt (entryRow (now (regions .entry))) (constraintRow (now (cons .entry))) (unitRow (now (units .entry))) m account own) n) (now (buf .exit)) x ⌝ }
 {
     let all = divisors::totals_of(regions);
-    let mut end = place;
-    let mut at = 0;
+    let mut here = Cursor { next: 0, place };
     let mut j = 0;
     while j < n {
         let r = rows::constraint_row(cons, j);
-        let total = divisors::over_regions(all, r);
-        let out = constraint::constraint_lines(buf, end, units, m, at, r, own, total, account);
-        end = out.place;
-        at = out.next;
+        let share = Share {
+            own: divisors::over_regions(own, r),
+            total: divisors::over_regions(all, r),
+        };
+        here = units::constraint_lines(buf, units, m, here, r, share, account);
         j += 1;
     }
-    end
+    here.place
 }
 
 // The lines of the n contracts.
@@ -65,7 +65,7 @@ fn contracts(
     let mut i = 0;
     while i < n {
         let k = rows::contract_row(contracts, i);
-        end = contract::contract_lines(buf, end, regions, k, own);
+        end = payments::contract_lines(buf, end, regions, k, own);
         i += 1;
     }
     end

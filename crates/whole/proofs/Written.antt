@@ -13,7 +13,7 @@ use Rattle.statement.specs.declared.Heading.{Heading}
 use Rattle.statement.specs.declared.Line.{Line}
 use Rattle.statement.proofs.Lines.{heading-length, lines-length}
 use Rattle.lines.specs.Inner.Walks.{bookLines}
-use Rattle.writing.specs.Inner.Emitted.{Emitted}
+use Rattle.emission.specs.Inner.Emitted.{Emitted}
 use Rattle.whole.specs.Inner.Whole.{headingIn, wholeOf}
 
 -- the lines behind the header, and then the header

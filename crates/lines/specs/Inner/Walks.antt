@@ -41,12 +41,11 @@ conLines unit m account r o t =
     (joined (unitLinesAt unit account r (poolsOf r)) m ++ restLines r (residualPools r (poolsOf r)) o t)
 
 -- what settling a constraint rests on
-pub record Settles (unit : ℕ → UnitRow) (m : ℕ) (r : Constraint) (own : Totals) (total : ℕ) : Type 0 where
+pub record Settles (unit : ℕ → UnitRow) (m : ℕ) (r : Constraint) (o t : ℕ) : Type 0 where
   pub rule : ConstraintRule r
   -- no unit row names a constraint of mode 0
   pub bare : r .mode ≡ 0 → (u : ℕ) → u < m → keyOf unit u ≡ r .id → ⊥
-  pub energy : (g : ℕ) → g < 5 → EntryRule (entryOf own g)
-  pub shared : Shared (overRegions (entryOf own) r) total
+  pub shared : Shared o t
 
 -- constraint j's lines
 unfoldable pub conLinesAt : (ℕ → Entry) → (ℕ → Constraint) → (ℕ → UnitRow) → ℕ → ℕ → Totals → ℕ → List Line

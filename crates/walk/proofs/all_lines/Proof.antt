@@ -1,7 +1,7 @@
 -- `walk::all_lines` meets its contract. The constraints' lines, and then the contracts'. Assumes nothing.
 use mathlib.Core.Path.{_∙_}
 use borrow.Author.Needs.{needs}
-use Rattle.writing.proofs.Emission.{emitted-length}
+use Rattle.emission.proofs.Emission.{emitted-length}
 use Rattle.book.proofs.Room.{entries-room, constraints-room, units-room, contracts-room}
 use Rattle.lines.proofs.Parts.{ready-at, payable-at}
 use Rattle.walk.proofs.AllLines.{first-room, second-room, both-out}

@@ -3,11 +3,11 @@ use Prim.Native.Nat.{_≤_, _<_, _-_}
 use native.Mathlib.Omega.{arith}
 use borrow.Author.Needs.{needs}
 use Rattle.totals.proofs.Turns.{totals-rule, divisor-read}
-use Rattle.writing.proofs.Loops.{out-start, out-room, out-more, out-all}
+use Rattle.emission.proofs.Loops.{out-start, out-room, out-more, out-all}
 use Rattle.walk.proofs.Records.{settles-at, con-room, con-out}
 use Rattle.lines.specs.Inner.Walks.{conLinesAt}
-use Rattle.writing.proofs.Emission.{emitted-length}
-use Rattle.writing.specs.Inner.Emitted.{Emitted}
+use Rattle.emission.proofs.Emission.{emitted-length}
+use Rattle.emission.specs.Inner.Emitted.{Emitted}
 use Rattle.accounts.specs.Rows.{joined}
 use Rattle.factors.specs.Naming.{idOf, keyOf}
 use Rattle.records.specs.Rows.{entryRow, constraintRow, unitRow}

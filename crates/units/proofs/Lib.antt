@@ -1,0 +1,2 @@
+pub mod UnitRuns
+pub mod OneConstraint
