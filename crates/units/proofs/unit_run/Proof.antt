@@ -8,10 +8,10 @@ use Rattle.units.proofs.unit_run.Statement.{statement}
 use Rattle.units.proofs.unit_run.Tie as tie
 
 abbrev Inv-loop : tie.InvT-loop
-Inv-loop buf₀ units m from r p account u₀ end₀ buf u end = Running (unitRow units) m account r p buf₀ (from .place) buf u end
+Inv-loop buf₀ units m r p account u₀ end₀ buf u end = Running (unitRow units) m account r p buf₀ end₀ buf u end
 
 abbrev μ-loop : tie.MeasureT-loop
-μ-loop buf₀ units m from r p account u₀ end₀ buf u end = m - u
+μ-loop buf₀ units m r p account u₀ end₀ buf u end = m - u
 
 loop-holds : tie.Need-loop-holds Inv-loop μ-loop
 loop-holds c = running-start _ _ _ _ _ _ (c .before .before .pre .1 .1 .0)
