@@ -8,11 +8,11 @@ use borrow.Author.Tests.{eqb-false}
 use lib.Dec.{eqb}
 use lib.IntN.{ℤ, pos}
 use lib.ListN.{length}
-use Rattle.ground.specs.Sign.{less}
-use Rattle.ground.proofs.Sizes.{less-plus}
+use Rattle.numbers.specs.Sign.{less}
+use Rattle.numbers.proofs.Sizes.{less-plus}
 use Rattle.sections.specs.Total.{total, keyed}
 use Rattle.sections.proofs.Total.{total-same}
-use Rattle.records.specs.Rules.{factorOf}
+use Rattle.rules.specs.Rules.{factorOf}
 use Rattle.records.specs.declared.rows.UnitRow.{UnitRow}
 use Rattle.factors.specs.Naming.{keyOf}
 use Rattle.factors.specs.Factors.{sumOver}

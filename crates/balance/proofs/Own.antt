@@ -64,7 +64,7 @@ module _ (B : Book) (a : ℕ) where
 
   own-counted : Promise B → Counted (B .energy) (B .header .energies) (λ i. eqb (B .energy i .account) a) (entryOf (ownOf B a))
   unfolding ownOf ownBy entryBy
-  own-counted p = record { low = λ i l. p .fields .energies i l .region; sums = by }
+  own-counted p = record { low = λ i l. p .sound .fields .energies i l .region; sums = by }
     where
       by : (b : Basis) (g : ℕ) → g < 5 → entryBy b (entryOf (ownOf B a) g) ≡ ownBy B a b g
       by Ace g l = five _ g l

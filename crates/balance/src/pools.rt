@@ -21,7 +21,7 @@ use crate::units;
 use amounts::pools;
 use amounts::shares;
 use book::header::Header;
-use ground::sign;
+use numbers::sign;
 use market::Region;
 use market::Service;
 use parties::count;

@@ -17,7 +17,7 @@ use Rattle.accounts.specs.Account.{publicOf, rowsOfAccount, unknown}
 use Rattle.parties.specs.Once.{has}
 use Rattle.statement.specs.Lent.{Outcome, refuses, gives}
 use Rattle.lines.specs.Limit.{anyOver}
-use Rattle.reading.specs.Reading.{isStatement}
+use Rattle.parsing.specs.Parsing.{isStatement}
 use Rattle.reading.specs.Calls.{ifStatement}
 use Rattle.settlement.specs.Settle.{linesOf, settled, outcomeIf, outcome}
 use Rattle.demands.specs.Demand1.{onABook, onAStatement, onRewriting, OneOf}

@@ -7,7 +7,7 @@ use borrow.Author.Tests.{eqb-false}
 use lib.Dec.{eqb}
 use Rattle.ground.specs.Inner.Each.{Each}
 use Rattle.ground.proofs.Each.{each-append, each-choice}
-use Rattle.records.specs.Rules.{factorOf}
+use Rattle.rules.specs.Rules.{factorOf}
 use Rattle.factors.specs.Naming.{keyOf}
 use Rattle.totals.specs.Divisors.{overRegions}
 use Rattle.totals.specs.Inner.Totals.{entryOf}

@@ -5,7 +5,7 @@ ghost use Prim.Native.Nat.{_≤_, _<_};
 ghost use lib.ListN.{length};
 ghost use Rattle.ground.specs.Nth.{found, nth};
 ghost use Rattle.records.specs.Rows.{entryRow};
-ghost use Rattle.records.specs.Inner.Facts.{UnitRule};
+ghost use Rattle.rules.specs.Inner.Facts.{UnitRule};
 ghost use Rattle.totals.specs.Inner.Totals.{entryOf};
 ghost use Rattle.amounts.specs.Inner.Bounds.{SmallPools, SmallResidual};
 ghost use Rattle.lines.specs.Lines.{unitLines, restLines, regionLines};

@@ -8,7 +8,7 @@ ghost use lib.ListN.{length};
 ghost use Rattle.ground.specs.Nth.{found, nth};
 ghost use Rattle.sections.specs.Inner.Walk.{Stands};
 ghost use Rattle.records.specs.Rows.{entryRow, unitRow};
-ghost use Rattle.records.specs.Inner.Facts.{ConstraintRule, UnitRule};
+ghost use Rattle.rules.specs.Inner.Facts.{ConstraintRule, UnitRule};
 ghost use Rattle.factors.specs.Naming.{keyOf};
 ghost use Rattle.factors.specs.Inner.Runs.{Walked};
 ghost use Rattle.totals.specs.Divisors.{overRegions};

@@ -6,8 +6,8 @@ use mathlib.Core.List.{List, [], _∷_}
 use native.Mathlib.Omega.{arith}
 use native.Mathlib.Nat.{le-of-mul-le-mul-left}
 use lib.ListN.{length}
-use Rattle.ground.specs.Round.{roundN}
-use Rattle.ground.proofs.Rounding.{half-above, half-below}
+use Rattle.numbers.specs.Round.{roundN}
+use Rattle.numbers.proofs.Rounding.{half-above, half-below}
 use Rattle.records.specs.declared.rows.UnitRow.{UnitRow}
 use Rattle.records.specs.declared.rows.EnergyRow.{EnergyRow}
 use Rattle.accounts.specs.Rows.{sumOf}

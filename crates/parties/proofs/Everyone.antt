@@ -7,8 +7,8 @@ use native.Mathlib.Omega.{arith}
 use native.Mathlib.Nat.{mul-zero}
 use lib.Dec.{eqb}
 use lib.ListN.{length}
-use Rattle.ground.specs.Round.{roundN}
-use Rattle.ground.proofs.Rounding.{round-zero}
+use Rattle.numbers.specs.Round.{roundN}
+use Rattle.numbers.proofs.Rounding.{round-zero}
 use Rattle.sections.specs.Total.{total}
 use Rattle.sections.specs.Search.{some}
 use Rattle.sections.proofs.Total.{total-zero}

@@ -8,15 +8,15 @@ use native.Mathlib.Omega.{arith}
 use native.Mathlib.Nat.{eq-or-lt-of-le, not-suc-le-zero, le-of-suc-le-suc, le-refl, le-trans, le-of-eq, mul-le-mul, add-comm, one-mul, zero-mul}
 use borrow.Author.Tests.{eq-eqb}
 use mir.Val.{boolByte}
-use Rattle.ground.specs.Round.{roundN}
-use Rattle.ground.proofs.Rounding.{round-share}
+use Rattle.numbers.specs.Round.{roundN}
+use Rattle.numbers.proofs.Rounding.{round-share}
 use Rattle.sections.specs.Total.{total, keyed}
 use Rattle.sections.specs.Inner.Walk.{Stands, Past}
 use Rattle.sections.proofs.Total.{total-bound, total-under, keyed-le}
 use Rattle.sections.proofs.Search.{lt-or-ge}
 use Rattle.sections.proofs.Walk.{Run, run-start, run-next, run-stop, run-done, sum-start, sum-more, sum-past}
 use Rattle.market.specs.Kinds.{bitSet}
-use Rattle.records.specs.Inner.Facts.{EnergyRule}
+use Rattle.rules.specs.Inner.Facts.{EnergyRule}
 use Rattle.records.specs.declared.rows.EnergyRow.{EnergyRow}
 use Rattle.accounts.specs.Rows.{sumOf}
 use Rattle.parties.specs.Once.{has, joinNew, named}

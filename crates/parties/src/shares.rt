@@ -2,10 +2,10 @@
 ghost use mathlib.Core.Path.{_≡_};
 ghost use Prim.Native.Nat.{_*_, _≤_, _<_};
 ghost use lib.ListN.{length};
-ghost use Rattle.ground.specs.Round.{roundN};
+ghost use Rattle.numbers.specs.Round.{roundN};
 ghost use Rattle.ground.specs.Units.{moneyLimit, totalLimit};
 ghost use Rattle.sections.specs.Inner.Walk.{Stands};
-ghost use Rattle.records.specs.Inner.Facts.{EnergyRule};
+ghost use Rattle.rules.specs.Inner.Facts.{EnergyRule};
 ghost use Rattle.records.specs.Rows.{energyRow};
 ghost use Rattle.parties.specs.Inner.Groups.{GroupIs};
 ghost use Rattle.parties.specs.Parties.{energyAccount};

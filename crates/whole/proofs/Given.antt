@@ -6,7 +6,7 @@ use native.Mathlib.Omega.{arith}
 use native.Mathlib.Nat.{le-trans}
 use Rattle.sections.proofs.Total.{total-bound, total-under}
 use Rattle.market.specs.Kinds.{raises, regulates, bitSet}
-use Rattle.records.specs.Inner.Facts.{EntryRule}
+use Rattle.rules.specs.Inner.Facts.{EntryRule}
 use Rattle.records.specs.declared.rows.Entry.{Entry}
 use Rattle.records.specs.declared.rows.Constraint.{Constraint}
 use Rattle.factors.specs.Naming.{idOf, keyOf}

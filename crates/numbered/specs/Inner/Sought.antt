@@ -6,7 +6,7 @@ use mathlib.Core.List.{List, [], _∷_}
 use lib.Dec.{eqb}
 use Rattle.ground.specs.Nth.{found, past, nth}
 use Rattle.sections.specs.Inner.Walk.{Past}
-use Rattle.records.specs.Inner.Facts.{EntryRule, ConstraintRule}
+use Rattle.rules.specs.Inner.Facts.{EntryRule, ConstraintRule}
 use Rattle.records.specs.declared.rows.Entry.{Entry}
 use Rattle.records.specs.declared.rows.Constraint.{Constraint}
 use Rattle.records.specs.declared.rows.UnitRow.{UnitRow}

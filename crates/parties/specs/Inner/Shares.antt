@@ -4,12 +4,12 @@ use mathlib.Core.Path.{_≡_}
 use mathlib.Core.List.{[]}
 use mathlib.Core.Bool.{cond}
 use lib.Dec.{eqb}
-use Rattle.ground.specs.Round.{roundN}
+use Rattle.numbers.specs.Round.{roundN}
 use Rattle.ground.specs.Units.{moneyLimit, totalLimit}
 use Rattle.sections.specs.Total.{total}
 use Rattle.sections.specs.Inner.Order.{PairsRise}
 use Rattle.market.specs.Kinds.{bitSet}
-use Rattle.records.specs.Inner.Facts.{EnergyRule}
+use Rattle.rules.specs.Inner.Facts.{EnergyRule}
 use Rattle.records.specs.declared.rows.EnergyRow.{EnergyRow}
 use Rattle.accounts.specs.Rows.{sumOf}
 use Rattle.parties.specs.Once.{named}
