@@ -24,22 +24,18 @@ use Rattle.records.specs.declared.rows.Contract.{Contract}
 use Rattle.factors.specs.Naming.{idOf, keyOf}
 use Rattle.totals.specs.Inner.Totals.{entryOf}
 use Rattle.amounts.specs.Pools.{poolsOf, residualPools}
-use Rattle.amounts.specs.declared.pools.Residual.{Residual}
 use Rattle.accounts.specs.Rows.{joined}
 use Rattle.accounts.proofs.Joined.{joined-none, joined-more, joined-all, joined-length}
 use Rattle.book.specs.Book.{bookIn}
 use Rattle.book.specs.Header.{unitsFrom, contractsFrom}
 use Rattle.book.specs.declared.header.Header.{Header}
-use Rattle.lines.specs.Lines.{unitLines, restLines, regionLines}
-use Rattle.walk.specs.Inner.Walks.{ownLines, unitLinesAt, conLines, conLinesAt, contractLinesAt, bookLines}
+use Rattle.lines.specs.Lines.{regionLines}
+use Rattle.lines.specs.Inner.Each.{eachOf, regionEach}
+use Rattle.lines.specs.Inner.Walks.{ownLines, unitLinesAt, conLines, conLinesAt, contractLinesAt, bookLines}
+use Rattle.lines.proofs.Numbering.{choice-length, unit-length, rest-length, region-length}
 use Rattle.walk.proofs.Order.{rises-once}
-use Rattle.count.specs.Inner.Counts.{eachOf, countIn, rowCount, UnitsCounted, BareOf, Countable, MetAt, ConstraintsCounted, ContractCounted, ContractsCounted, BookCounted}
+use Rattle.count.specs.Inner.Counts.{countIn, rowCount, UnitsCounted, BareOf, Countable, MetAt, ConstraintsCounted, ContractCounted, ContractsCounted, BookCounted}
 use Rattle.count.specs.declared.Met.{Met}
-
--- whichever of two lists is taken, so long it is
-choice-length : {A : Type 0} (t : Bool) (xs ys : List A) → length (cond t xs ys) ≡ cond t (length xs) (length ys)
-choice-length true xs ys = refl
-choice-length false xs ys = refl
 
 is-zero : (n : ℕ) → (n ≡ 0) ⊎ (n ≡ 0 → ⊥)
 is-zero zero = inl refl
@@ -65,21 +61,17 @@ module _ (unit : ℕ → UnitRow) (account : ℕ) (r : Constraint) (u : ℕ) whe
       nothing false = refl
 
   row-length : length (unitLinesAt unit account r (poolsOf r) u) ≡ countIn unit account r u
-  unfolding unitLinesAt ownLines unitLines countIn keyed eachOf
+  unfolding unitLinesAt ownLines countIn keyed
   row-length =
       choice-length (eqb (keyOf unit u) (r .id)) _ []
       ∙ ap (λ (x : ℕ). cond (eqb (keyOf unit u) (r .id)) x 0)
-      (choice-length (eqb (unit u .account) account) _ [] ∙ ap (λ (x : ℕ). cond (eqb (unit u .account) account) x 0) (choice-length (eqb (r .mode) 1) _ _))
+      (choice-length (eqb (unit u .account) account) _ [] ∙ ap (λ (x : ℕ). cond (eqb (unit u .account) account) x 0) (unit-length r (poolsOf r) (unit u)))
 
 -- ---- a constraint
 
 module _ (unit : ℕ → UnitRow) (m account : ℕ) (r : Constraint) where
   rows-length : length (joined (unitLinesAt unit account r (poolsOf r)) m) ≡ total (countIn unit account r) m
   rows-length = joined-length (unitLinesAt unit account r (poolsOf r)) m ∙ total-same _ _ m (λ u l. row-length unit account r u)
-
-  rest-length : (x : Residual) (o t : ℕ) → length (restLines r x o t) ≡ eachOf r
-  unfolding restLines eachOf
-  rest-length x o t = choice-length (eqb (r .mode) 1) _ _
 
   single : r .mode ≡ 0 → 1 ≡ eachOf r
   unfolding eachOf
@@ -90,7 +82,7 @@ module _ (unit : ℕ → UnitRow) (m account : ℕ) (r : Constraint) where
   con-length bare o t =
       ⊎-elim
       (λ (z : r .mode ≡ 0). rw (eq-eqb _ _ z) (ap₂ _+_ (total-zero (countIn unit account r) m (λ u l. miss unit account r u (bare z u l))) (single z)))
-      (λ (d : r .mode ≡ 0 → ⊥). rw (ne-eqb _ _ d, length-append) (ap₂ _+_ rows-length (rest-length (residualPools r (poolsOf r)) o t)))
+      (λ (d : r .mode ≡ 0 → ⊥). rw (ne-eqb _ _ d, length-append) (ap₂ _+_ rows-length (rest-length r (residualPools r (poolsOf r)) o t)))
       (is-zero (r .mode))
 
 -- ---- all constraints
@@ -159,16 +151,15 @@ module _ (con : ℕ → Constraint) (n : ℕ) (unit : ℕ → UnitRow) (m accoun
 
 -- ---- a contract, and all
 
-region-length : (entry own : ℕ → Entry) (k : Contract) (g : ℕ) {x : ℕ} → x ≡ cond (eqb (factorOf (k .factors) g) 0) 0 2 → x ≡ length (regionLines entry own k g)
-unfolding regionLines
-region-length entry own k g e = e ∙ sym (choice-length (eqb (factorOf (k .factors) g) 0) _ _)
+region-told : (entry own : ℕ → Entry) (k : Contract) (g : ℕ) {x : ℕ} → x ≡ regionEach (factorOf (k .factors) g) → x ≡ length (regionLines entry own k g)
+region-told entry own k g e = e ∙ sym (region-length entry own k g)
 
-pub contract-counted : (k : Contract) {a b c d e : ℕ} → a ≡ cond (eqb (factorOf (k .factors) 0) 0) 0 2 → b ≡ cond (eqb (factorOf (k .factors) 1) 0) 0 2 → c ≡ cond (eqb (factorOf (k .factors) 2) 0) 0 2 → d ≡ cond (eqb (factorOf (k .factors) 3) 0) 0 2 → e ≡ cond (eqb (factorOf (k .factors) 4) 0) 0 2 → a + b + c + d + e ≤ 10 → ContractCounted k (a + b + c + d + e)
+pub contract-counted : (k : Contract) {a b c d e : ℕ} → a ≡ regionEach (factorOf (k .factors) 0) → b ≡ regionEach (factorOf (k .factors) 1) → c ≡ regionEach (factorOf (k .factors) 2) → d ≡ regionEach (factorOf (k .factors) 3) → e ≡ regionEach (factorOf (k .factors) 4) → a + b + c + d + e ≤ 10 → ContractCounted k (a + b + c + d + e)
 contract-counted k p q r s t l =
     record {
       lines = λ entry own. (
           let five = joined-length (regionLines entry own k) 5 ∙ total-five (λ g. length (regionLines entry own k g)) in
-          omega (arith, five, region-length entry own k 0 p, region-length entry own k 1 q, region-length entry own k 2 r, region-length entry own k 3 s, region-length entry own k 4 t)
+          omega (arith, five, region-told entry own k 0 p, region-told entry own k 1 q, region-told entry own k 2 r, region-told entry own k 3 s, region-told entry own k 4 t)
           );
       few = l;
     }

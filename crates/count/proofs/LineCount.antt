@@ -25,7 +25,7 @@ use Rattle.accounts.specs.Rows.{joined}
 use Rattle.accounts.proofs.Joined.{joined-length, joined-bound}
 use Rattle.statement.specs.declared.Line.{Line}
 use Rattle.lines.specs.Lines.{unitLines, restLines, regionLines}
-use Rattle.walk.specs.Inner.Walks.{ownLines, unitLinesAt, conLines, conLinesAt, contractLinesAt}
+use Rattle.lines.specs.Inner.Walks.{ownLines, unitLinesAt, conLines, conLinesAt, contractLinesAt}
 
 -- ---- sums
 

@@ -1,27 +1,19 @@
 // How many lines an account has, without making one: its unit rows are told by their accounts, and the mode says how many lines each has.
 ghost use mathlib.Core.Path.{_≡_};
-ghost use mathlib.Core.Bool.{cond};
 ghost use Prim.Native.Nat.{_+_, _*_, _≤_, _<_};
-ghost use lib.Dec.{eqb};
 ghost use lib.ListN.{length};
 ghost use Rattle.sections.specs.Total.{total};
 ghost use Rattle.records.specs.Rows.{constraintRow, unitRow, contractRow};
 ghost use Rattle.book.specs.Book.{bookIn};
 ghost use Rattle.book.specs.Inner.Facts.{Laid};
-ghost use Rattle.count.specs.Inner.Counts.{eachOf, UnitsCounted, Countable, MetAt, ConstraintsCounted, ContractCounted, ContractsCounted, BookCounted};
+ghost use Rattle.lines.specs.Inner.Each.{eachOf};
+ghost use Rattle.count.specs.Inner.Counts.{UnitsCounted, Countable, MetAt, ConstraintsCounted, ContractCounted, ContractsCounted, BookCounted};
 use book::header::Header;
 use factors::naming;
-use market::Mode;
+use lines::groups;
 use records::rows;
 use records::rows::Constraint;
 use records::rows::Contract;
-
-// How many lines a unit row of the constraint has, and how many its residual.
-fn lines_each(r: Constraint) -> usize
-    ensures { λ x. ⌜ (x ≡ eachOf r) × (x ≤ 3) ⌝ }
-{
-    if r.mode == Mode::FACTORED { 3 } else { 1 }
-}
 
 // Where a search among the constraints stands, and how many lines there are so far.
 pub struct Met {
@@ -42,7 +34,7 @@ fn with_row(cons: &[u8], n: usize, units: &[u8], m: usize, u: usize, met: Met, a
         return met;
     }
     let cursor = naming::seek(cons, n, met.cursor, q.constraint);
-    let lines = met.lines + lines_each(rows::constraint_row(cons, cursor));
+    let lines = met.lines + groups::lines_each(rows::constraint_row(cons, cursor));
     Met { cursor, lines }
 }
 
@@ -72,7 +64,7 @@ fn other_lines(cons: &[u8], n: usize) -> usize
     let mut lines = 0;
     let mut j = 0;
     while j < n {
-        lines += lines_each(rows::constraint_row(cons, j));
+        lines += groups::lines_each(rows::constraint_row(cons, j));
         j += 1;
     }
     lines
@@ -87,22 +79,15 @@ fn constraints(cons: &[u8], n: usize, units: &[u8], m: usize, account: u32) -> u
     unit_lines(cons, n, units, m, account) + other_lines(cons, n)
 }
 
-// Two lines in a region that a contract benefits.
-fn region_count(factor: u32) -> usize
-    ensures { λ x. ⌜ (x ≡ cond (eqb factor 0) 0 2) × (x ≤ 2) ⌝ }
-{
-    if factor == 0 { 0 } else { 2 }
-}
-
 fn contract_count(k: Contract) -> usize
     ensures { λ x. ⌜ ContractCounted k x ⌝ }
 {
     let f = k.factors;
-    region_count(f[0])
-        + region_count(f[1])
-        + region_count(f[2])
-        + region_count(f[3])
-        + region_count(f[4])
+    groups::region_count(f[0])
+        + groups::region_count(f[1])
+        + groups::region_count(f[2])
+        + groups::region_count(f[3])
+        + groups::region_count(f[4])
 }
 
 // The lines of the n contracts.

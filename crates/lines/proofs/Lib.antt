@@ -1,2 +1,5 @@
-pub mod Emission
 pub mod Limit
+pub mod Numbering
+pub mod UnitRows
+pub mod Parts
+pub mod EachLine

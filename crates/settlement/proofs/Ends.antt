@@ -1,12 +1,12 @@
 -- Each way in which the call ends, over a book's own rows. Assumes nothing.
-use Prim.Native.Nat.{ℕ, _+_, _*_, _≤_, _<_}
+use Prim.Native.Nat.{ℕ, _+_, _*_, _<_}
 use mathlib.Core.Path.{_≡_, refl, sym, ap, subst, _∙_}
 use Rattle.records.specs.declared.rows.Entry.{Entry}
 use mathlib.Core.Bool.{Bool, true, false, not, _&&_, _||_}
 use mathlib.Core.List.{List}
-use borrow.Author.Tests.{ltb-true, ltb-false, le-ltb}
+use borrow.Author.Tests.{ltb-true, ltb-false}
 use lib.Dec.{eqb, ltb}
-use lib.ListN.{length, length-append}
+use lib.ListN.{length}
 use native.Mathlib.Omega.{arith}
 use Rattle.ground.specs.Inner.Put.{Wrote}
 use Rattle.sections.specs.declared.Verdict.{Verdict}
@@ -20,7 +20,7 @@ use Rattle.book.specs.Inner.Facts.{Laid}
 use Rattle.book.specs.Table.{verdict}
 use Rattle.book.specs.Inner.Accepted.{AtMostEntry, Promise, AcceptedBook}
 use Rattle.book.proofs.Promise.{accepted}
-use Rattle.accounts.specs.Rows.{rowsOf, keep, none, joined}
+use Rattle.accounts.specs.Rows.{rowsOf, keep, none}
 use Rattle.accounts.specs.Account.{publicOf, rowsOfAccount, unknown}
 use Rattle.accounts.specs.Inner.Held.{HeldIs}
 use Rattle.accounts.specs.declared.Held.{Held}
@@ -32,16 +32,16 @@ use Rattle.statement.specs.declared.Written.the-variants as written
 use Rattle.statement.proofs.Lent.{lent-refused}
 use Rattle.statement.proofs.Lines.{statement-length}
 use Rattle.lines.specs.Limit.{anyOver}
-use Rattle.settlement.specs.Settle.{linesOf, headingOf, statementOf, settled, outcomeIf, outcome}
-use Rattle.walk.specs.Inner.Walks.{conLinesAt, contractLinesAt, bookLines}
-use Rattle.settlement.specs.Inner.Owned.{wholeOf, Fits, Owned}
-use Rattle.count.specs.Inner.Counts.{BookCounted}
-use Rattle.settlement.specs.Inner.Limits.{bookOver}
-use Rattle.settlement.proofs.Whole.{settled-unknown, settled-over, lent-short, lent-written}
-use Rattle.settlement.proofs.UnderLimit.{over-is}
+use Rattle.settlement.specs.Settle.{linesOf, statementOf, settled, outcomeIf, outcome}
+use Rattle.lines.specs.Inner.Walks.{bookLines}
+use Rattle.limit.specs.Inner.Limits.{bookOver}
+use Rattle.limit.proofs.UnderLimit.{over-is}
+use Rattle.whole.specs.Inner.Whole.{Fits, headingIn, wholeOf}
+use Rattle.whole.proofs.Given.{ready-of, payable-of}
+use Rattle.whole.proofs.Lengths.{few-of}
+use Rattle.settlement.specs.Inner.Owned.{Owned}
+use Rattle.settlement.proofs.Settled.{settled-unknown, settled-over, lent-short, lent-written}
 use Rattle.settlement.proofs.Link.{lines-link}
-use Rattle.settlement.proofs.Given.{ready-of, payable-of}
-use Rattle.count.proofs.LineCount.{few-lines, few-pays}
 
 -- ---- the tests that come before the first byte is written
 
@@ -65,37 +65,12 @@ module _ (B : Book) (account : ℕ) (own : Totals) (p : Promise B) (o : Owned B 
     fits-in q = record { few = o .few; room = ltb-false _ _ (sym (s own) ∙ q) }
 
     pub end-written : {b : List ℕ} {n : ℕ} → short ≡ false → Wrote l 0 (wholeOf account B own) b n → Lent (settled account (publicOf B) (rowsOfAccount B account)) l (Length n) b
-    unfolding statementOf wholeOf
+    unfolding statementOf wholeOf publicOf
     end-written {b} {n} q w =
-        let end : n ≡ 24 + length (bookLines B account own) * 24 = omega (arith, w .next, statement-length (headingOf account (publicOf B) (length (bookLines B account own))) (bookLines B account own)) in
+        let end : n ≡ 24 + length (bookLines B account own) * 24 = omega (arith, w .next, statement-length (headingIn account B (length (bookLines B account own))) (bookLines B account own)) in
         rw end
         (lent-written account (publicOf B) (rowsOfAccount B account) (o .known) (sym over-told ∙ t) l (length (bookLines B account own)) count-is (fits-in q .room)
         (rw (sym (o .lines)) at (w .bytes)))
-
--- ---- how many lines there are
-
-module _ (B : Book) (account : ℕ) (p : Promise B) where
-  pub most-of : (own : Totals) → length (bookLines B account own) ≤ 3 * B .header .units + 3 * B .header .constraints + 10 * B .header .contracts
-  unfolding bookLines
-  most-of own =
-      let c = joined (conLinesAt (B .entry) (B .constraint) (B .unit) (B .header .units) account own) (B .header .constraints) in
-      let k = joined (contractLinesAt (B .entry) (entryOf own) (B .contract)) (B .header .contracts) in
-      omega (
-        arith,
-        length-append c k,
-        few-lines (B .entry) (B .constraint) (B .header .constraints) (B .unit) (B .header .units) account own (p .sound .ordered .constraints),
-        few-pays (B .entry) (entryOf own) (B .contract) (B .header .contracts),
-      )
-
-  pub few-of : (own : Totals) → length (bookLines B account own) ≤ 2152
-  few-of own = omega (arith, most-of own, p .sound .few .constraints, p .sound .few .units, p .sound .few .contracts)
-
-  -- with room for the most lines there is room
-  pub room-for-all : {most room : ℕ} → most ≡ 3 * B .header .units + 3 * B .header .constraints + 10 * B .header .contracts → 24 + most * 24 ≤ room → (own : Totals) → false ≡ ltb room (24 + length (bookLines B account own) * 24)
-  room-for-all {most} {room} e h own = sym (le-ltb room (24 + length (bookLines B account own) * 24) (omega (arith, most-of own)))
-
-  pub short-counted : (room : ℕ) {x : ℕ} → BookCounted B account x → (own : Totals) → ltb room (24 + x * 24) ≡ ltb room (24 + length (bookLines B account own) * 24)
-  short-counted room c own = ap (λ (n : ℕ). ltb room (24 + n * 24)) (c .lines own)
 
 -- ---- once the account's own rows are read
 

@@ -1,6 +1,4 @@
-pub mod EachLine
-pub mod UnderLimit
+pub mod Settled
 pub mod Link
-pub mod Whole
-pub mod Given
 pub mod Ends
+pub mod OneLine

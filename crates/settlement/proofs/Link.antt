@@ -22,7 +22,7 @@ use Rattle.accounts.proofs.Lists.{joined-rows, joined-keep}
 use Rattle.statement.specs.declared.Line.{Line}
 use Rattle.lines.specs.Lines.{unitLines, regionLines}
 use Rattle.settlement.specs.Settle.{entryIn, ofConstraint, constraintLines, contractLines, linesOf}
-use Rattle.walk.specs.Inner.Walks.{ownLines, unitLinesAt, conLines, conLinesAt, contractLinesAt, bookLines}
+use Rattle.lines.specs.Inner.Walks.{ownLines, unitLinesAt, conLines, conLinesAt, contractLinesAt, bookLines}
 
 -- ---- the five entries
 

@@ -1,69 +1,23 @@
 // The statement of an account: its lines in order, and the header before them.
-mod limit; // limit.rt: whether one would pass the limit
-
 ghost use mathlib.Core.Path.{_≡_};
 ghost use mathlib.Core.Bool.{not, _||_};
-ghost use Prim.Native.Nat.{_+_, _*_, _≤_};
+ghost use Prim.Native.Nat.{_*_, _≤_};
 ghost use lib.ListN.{length};
-ghost use lib.Dec.{eqb, ltb};
-ghost use Rattle.ground.specs.Inner.Put.{Wrote};
+ghost use lib.Dec.{eqb};
 ghost use Rattle.records.specs.Rows.{unitRow};
 ghost use Rattle.book.specs.Book.{bookIn};
-ghost use Rattle.book.specs.Inner.Facts.{Few, Laid};
+ghost use Rattle.book.specs.Inner.Facts.{Laid};
 ghost use Rattle.book.specs.Inner.Accepted.{Promise};
 ghost use Rattle.accounts.specs.Rows.{rowsOf, keep, none};
 ghost use Rattle.accounts.specs.Account.{publicOf, rowsOfAccount};
 ghost use Rattle.statement.specs.Lent.{Lent};
-ghost use Rattle.totals.specs.declared.entries.Totals.{Totals};
 ghost use Rattle.settlement.specs.Settle.{settled, outcome};
-ghost use Rattle.walk.specs.Inner.Walks.{bookLines, Walkable};
-ghost use Rattle.settlement.specs.Inner.Owned.{wholeOf, Fits, Owned};
+ghost use Rattle.settlement.specs.Inner.Owned.{Owned};
 use book::header;
 use book::header::Header;
 use sections::Verdict;
-use statement::Heading;
 use statement::Written;
 use totals::entries::Totals;
-
-// The lines, and then the header, which says how many they are, into a buffer that has room for them. Answers where they end.
-fn write(buffer: &mut [u8], book: &[u8], h: Header, own: Totals, account: u32) -> usize
-    requires { ⌜ Laid (now book) h ⌝ }
-    requires { ⌜ Walkable (bookIn (now book) h) own ⌝ }
-    requires { ⌜ Fits (bookLines (bookIn (now book) h) account own) (length (now buffer)) ⌝ }
-    ensures { λ e. ⌜ Wrote (now (buffer .entry)) 0 (wholeOf account (bookIn (now (book .entry)) h) own) (now (buffer .exit)) e ⌝ }
-{
-    let end = walk::all_lines(buffer, book, h, own, account);
-    let heading = Heading {
-        account,
-        date: h.date,
-        interval: h.interval,
-        run: h.run,
-        lines: (end / 24 - 1) as u16,
-    };
-    statement::put_heading(buffer, heading);
-    end
-}
-
-// No account has more lines: three of each unit row and each constraint, and ten of each contract.
-fn most_lines(h: Header) -> usize
-    requires { ⌜ Few h ⌝ }
-    ensures { λ x. ⌜ x ≡ 3 * h .units + 3 * h .constraints + 10 * h .contracts ⌝ }
-{
-    3 * (h.units as usize) + 3 * (h.constraints as usize) + 10 * (h.contracts as usize)
-}
-
-// Whether the statement has more bytes than there is room for. Where there is room for the most lines that the book's counts allow, none is
-// counted.
-fn is_short(book: &[u8], h: Header, account: u32, room: usize) -> bool
-    requires { ⌜ Laid (now book) h ⌝ }
-    requires { ⌜ Promise (bookIn (now book) h) ⌝ }
-    ensures { λ b. ⌜ ((own : Totals) → b ≡ ltb room (24 + length (bookLines (bookIn (now (book .entry)) h) account own) * 24)) ⌝ }
-{
-    if 24 + most_lines(h) * 24 <= room {
-        return false;
-    }
-    room < 24 + count::all_lines(book, h, account) * 24
-}
 
 // Both tests come before the first byte is written: 12, then 13.
 fn test_and_write(book: &[u8], h: Header, own: Totals, account: u32, buffer: &mut [u8]) -> Written
@@ -76,10 +30,10 @@ fn test_and_write(book: &[u8], h: Header, own: Totals, account: u32, buffer: &mu
         return Written::Refused(12, 0);
     }
     let room = buffer.len();
-    if is_short(book, h, account, room) {
+    if whole::is_short(book, h, account, room) {
         return Written::Refused(13, 0);
     }
-    Written::Length(write(buffer, book, h, own, account))
+    Written::Length(whole::write(buffer, book, h, own, account))
 }
 
 // Whether a row names the account, where it is known whether an energy row does. The unit rows are asked only where none does.

@@ -21,8 +21,8 @@ use Rattle.statement.specs.declared.Line.{Line}
 use Rattle.parsing.specs.Inner.Writable.{WritableLine}
 use Rattle.lines.specs.Lines.{unitLines, restLines}
 use Rattle.lines.specs.Limit.{passesLimit, anyOver}
-use Rattle.walk.specs.Inner.Walks.{bookLines}
-use Rattle.settlement.proofs.EachLine.{EachKind, each-line}
+use Rattle.lines.specs.Inner.Walks.{bookLines}
+use Rattle.lines.proofs.EachLine.{EachKind, each-line}
 use Rattle.trips.proofs.Due.{Due, Narrow}
 use Rattle.trips.proofs.Lines.{contingency-due, fpp-rest-due, used-rest-due, unused-rest-due, fpp-due, used-due, unused-due, ace-due, asoe-due}
 

@@ -1,5 +1,3 @@
 pub mod Order
-pub mod UnitRuns
-pub mod OneConstraint
-pub mod Loops
+pub mod Records
 pub mod AllLines

@@ -1,24 +1,19 @@
 // All lines of an account, made and written in one walk, in the statement's order: constraint by constraint, then contract by contract.
-mod units; // units.rt: an account's lines of one constraint
-
 ghost use Prim.Native.Nat.{ℕ, _*_, _≤_, _<_};
 ghost use lib.ListN.{length};
 ghost use Rattle.records.specs.Rows.{entryRow, constraintRow, unitRow, contractRow};
 ghost use Rattle.totals.specs.Inner.Totals.{entryOf};
 ghost use Rattle.accounts.specs.Rows.{joined};
-ghost use Rattle.lines.specs.Lines.{regionLines};
-ghost use Rattle.lines.specs.Inner.Emitted.{Emitted, LineRoom};
-ghost use Rattle.walk.specs.Inner.Walks.{conLinesAt, contractLinesAt, bookLines, Ready, ContractSettles, Walkable};
+ghost use Rattle.lines.specs.Inner.Walks.{conLinesAt, contractLinesAt, bookLines, Ready, ContractSettles, Walkable};
+ghost use Rattle.emission.specs.Inner.Emitted.{Emitted, LineRoom};
 ghost use Rattle.book.specs.Book.{bookIn};
 ghost use Rattle.book.specs.Inner.Facts.{Laid};
-use amounts::pools;
 use book::header::Header;
-use lines::groups;
-use lines::make;
 use records::rows;
-use records::rows::Contract;
 use totals::divisors;
 use totals::entries::Totals;
+use units::Cursor;
+use units::Share;
 
 // The lines of the n constraints. The cursor over the unit rows only moves forward.
 fn constraints(
@@ -38,61 +33,18 @@ fn constraints(
     ensures { λ x. ⌜ Emitted (now (buf .entry)) place (joined (conLinesAt (entryRow (now (regions .entry))) (constraintRow (now (cons .entry))) (unitRow (now (units .entry))) m account own) n) (now (buf .exit)) x ⌝ }
 {
     let all = divisors::totals_of(regions);
-    let mut end = place;
-    let mut at = 0;
+    let mut here = Cursor { next: 0, place };
     let mut j = 0;
     while j < n {
         let r = rows::constraint_row(cons, j);
-        let total = divisors::over_regions(all, r);
-        let out = units::constraint_lines(buf, end, units, m, at, r, own, total, account);
-        end = out.place;
-        at = out.next;
+        let share = Share {
+            own: divisors::over_regions(own, r),
+            total: divisors::over_regions(all, r),
+        };
+        here = units::constraint_lines(buf, units, m, here, r, share, account);
         j += 1;
     }
-    end
-}
-
-// A contract's two lines in region g, where it benefits.
-fn region_lines(
-    buf: &mut [u8],
-    place: usize,
-    regions: &[u8],
-    k: Contract,
-    g: usize,
-    own: Totals,
-) -> usize
-    requires { ⌜ (60 ≤ length (now regions)) × (g < 5) ⌝ }
-    requires { ⌜ ContractSettles (entryRow (now regions)) k own ⌝ }
-    requires { ⌜ LineRoom (now buf) place (length (regionLines (entryRow (now regions)) (entryOf own) k g)) ⌝ }
-    ensures { λ x. ⌜ Emitted (now (buf .entry)) place (regionLines (entryRow (now (regions .entry))) (entryOf own) k g) (now (buf .exit)) x ⌝ }
-{
-    let factors = k.factors;
-    let factor = factors[g];
-    if factor == 0 {
-        return place;
-    }
-    let e = rows::entry_row(regions, g);
-    let ace = own.ace;
-    let asoe = own.asoe;
-    let x = pools::halves_of(k.payment, factor);
-    let by_ace = make::ace_line(k.id, g, x, ace[g], e.ace as u64);
-    let by_asoe = make::asoe_line(k.id, g, x, asoe[g], e.asoe as u64);
-    groups::emit_two(buf, place, by_ace, by_asoe)
-}
-
-fn contract_lines(buf: &mut [u8], place: usize, regions: &[u8], k: Contract, own: Totals) -> usize
-    requires { ⌜ 60 ≤ length (now regions) ⌝ }
-    requires { ⌜ ContractSettles (entryRow (now regions)) k own ⌝ }
-    requires { ⌜ LineRoom (now buf) place (length (joined (regionLines (entryRow (now regions)) (entryOf own) k) 5)) ⌝ }
-    ensures { λ x. ⌜ Emitted (now (buf .entry)) place (joined (regionLines (entryRow (now (regions .entry))) (entryOf own) k) 5) (now (buf .exit)) x ⌝ }
-{
-    let mut end = place;
-    let mut g = 0;
-    while g < 5 {
-        end = region_lines(buf, end, regions, k, g, own);
-        g += 1;
-    }
-    end
+    here.place
 }
 
 // The lines of the n contracts.
@@ -113,7 +65,7 @@ fn contracts(
     let mut i = 0;
     while i < n {
         let k = rows::contract_row(contracts, i);
-        end = contract_lines(buf, end, regions, k, own);
+        end = payments::contract_lines(buf, end, regions, k, own);
         i += 1;
     }
     end

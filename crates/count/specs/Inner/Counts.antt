@@ -1,4 +1,4 @@
--- How many lines an account has. Only contracts of inner functions speak of these; the lines are those of the walk (walk/specs/Inner/Walks.antt).
+-- How many lines an account has. Only contracts of inner functions speak of these; the lines are those of the walk (lines/specs/Inner/Walks.antt).
 use Prim.Native.Nat.{ℕ, _*_, _≤_, _<_}
 use mathlib.Core.Path.{_≡_}
 use mathlib.Core.Bool.{cond}
@@ -17,12 +17,9 @@ use Rattle.totals.specs.declared.entries.Totals.{Totals}
 use Rattle.accounts.specs.Rows.{joined}
 use Rattle.book.specs.Book.{Book}
 use Rattle.lines.specs.Lines.{regionLines}
-use Rattle.walk.specs.Inner.Walks.{conLinesAt, contractLinesAt, bookLines}
+use Rattle.lines.specs.Inner.Each.{eachOf}
+use Rattle.lines.specs.Inner.Walks.{conLinesAt, contractLinesAt, bookLines}
 use Rattle.count.specs.declared.Met.{Met}
-
--- how many lines a unit row of the constraint has, and how many the constraint besides
-unfoldable pub eachOf : Constraint → ℕ
-eachOf r = cond (eqb (r .mode) 1) 3 1
 
 -- how many lines unit row u has of constraint r, where it names it and is the account's
 unfoldable pub countIn : (ℕ → UnitRow) → ℕ → Constraint → ℕ → ℕ

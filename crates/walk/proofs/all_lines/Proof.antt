@@ -1,9 +1,10 @@
 -- `walk::all_lines` meets its contract. The constraints' lines, and then the contracts'. Assumes nothing.
 use mathlib.Core.Path.{_∙_}
 use borrow.Author.Needs.{needs}
-use Rattle.lines.proofs.Emission.{emitted-length}
+use Rattle.emission.proofs.Emission.{emitted-length}
 use Rattle.book.proofs.Room.{entries-room, constraints-room, units-room, contracts-room}
-use Rattle.walk.proofs.AllLines.{ready-at, payable-at, first-room, second-room, both-out}
+use Rattle.lines.proofs.Parts.{ready-at, payable-at}
+use Rattle.walk.proofs.AllLines.{first-room, second-room, both-out}
 use Rattle.walk.proofs.all_lines.Statement.{statement}
 use Rattle.walk.proofs.all_lines.Tie as tie
 
@@ -47,7 +48,16 @@ cast-constraints-2 : tie.Need-cast-constraints-2
 cast-constraints-2 c = search needs
 
 constraints-requires : tie.Need-constraints-requires
-constraints-requires c κs = ((entries-room _ _ (c .before .before .before .before .before .before .before .before .before .before .pre .0), (constraints-room _ _ (c .before .before .before .before .before .before .before .before .before .before .pre .0), units-room _ _ (c .before .before .before .before .before .before .before .before .before .before .pre .0) _ (c .before .before .before .before .before .before .before .units-at .ensures))), (ready-at (c .before .before .before .before .before .before .before .before .before .before .args .book .now) (c .before .before .before .before .before .before .before .before .before .before .args .h) (c .before .before .before .before .before .before .before .before .before .before .args .account) (c .before .before .before .before .before .before .before .before .before .before .args .own) _ (c .before .before .before .before .before .before .before .units-at .ensures) (c .before .before .before .before .before .before .before .before .before .before .pre .1 .0), first-room (c .before .before .before .before .before .before .before .before .before .before .args .book .now) (c .before .before .before .before .before .before .before .before .before .before .args .h) (c .before .before .before .before .before .before .before .before .before .before .args .account) (c .before .before .before .before .before .before .before .before .before .before .args .own) _ _ (c .before .before .before .before .before .before .before .units-at .ensures) (c .before .before .before .before .before .before .contracts-at .ensures) (c .before .before .before .before .before .before .before .before .before .before .pre .1 .1)))
+constraints-requires c κs =
+    let k = c .before .before .before .before .before .before in
+    let u = k .before in
+    let s = u .before .before .before in (
+      (entries-room _ _ (s .pre .0), (constraints-room _ _ (s .pre .0), units-room _ _ (s .pre .0) _ (u .units-at .ensures))),
+      (
+        ready-at (s .args .book .now) (s .args .h) (s .args .account) (s .args .own) _ (u .units-at .ensures) (s .pre .1 .0),
+        first-room (s .args .book .now) (s .args .h) (s .args .account) (s .args .own) _ _ (u .units-at .ensures) (k .contracts-at .ensures) (s .pre .1 .1),
+      ),
+    )
 
 sub-contracts : tie.Need-sub-contracts
 sub-contracts c = search needs
@@ -71,13 +81,28 @@ cast-contracts : tie.Need-cast-contracts
 cast-contracts c = search needs
 
 contracts-requires : tie.Need-contracts-requires
-contracts-requires c κs = ((entries-room _ _ (c .before .before .before .before .before .before .before .before .before .before .before .before .before .before .before .before .before .pre .0), contracts-room _ _ (c .before .before .before .before .before .before .before .before .before .before .before .before .before .before .before .before .before .pre .0) _ (c .before .before .before .before .before .before .before .before .before .before .before .before .before .contracts-at .ensures)), (payable-at (c .before .before .before .before .before .before .before .before .before .before .before .before .before .before .before .before .before .args .book .now) (c .before .before .before .before .before .before .before .before .before .before .before .before .before .before .before .before .before .args .h) (c .before .before .before .before .before .before .before .before .before .before .before .before .before .before .before .before .before .args .account) (c .before .before .before .before .before .before .before .before .before .before .before .before .before .before .before .before .before .args .own) _ (c .before .before .before .before .before .before .before .before .before .before .before .before .before .contracts-at .ensures) (c .before .before .before .before .before .before .before .before .before .before .before .before .before .before .before .before .before .pre .1 .0), second-room (c .before .before .before .before .before .before .before .before .before .before .before .before .before .before .before .before .before .args .book .now) (c .before .before .before .before .before .before .before .before .before .before .before .before .before .before .before .before .before .args .h) (c .before .before .before .before .before .before .before .before .before .before .before .before .before .before .before .before .before .args .account) (c .before .before .before .before .before .before .before .before .before .before .before .before .before .before .before .before .before .args .own) _ _ (c .before .before .before .before .before .before .before .before .before .before .before .before .before .before .units-at .ensures) (c .before .before .before .before .before .before .before .before .before .before .before .before .before .contracts-at .ensures) (c .before .before .before .before .before .before .constraints .ensures) (c .before .before .before .before .before .before .before .before .before .before .before .before .before .before .before .before .before .pre .1 .1)))
+contracts-requires c κs =
+    let o = c .before .before .before .before .before .before in
+    let k = o .before .before .before .before .before .before .before in
+    let u = k .before in
+    let s = u .before .before .before in (
+      (entries-room _ _ (s .pre .0), contracts-room _ _ (s .pre .0) _ (k .contracts-at .ensures)),
+      (
+        payable-at (s .args .book .now) (s .args .h) (s .args .account) (s .args .own) _ (k .contracts-at .ensures) (s .pre .1 .0),
+        second-room (s .args .book .now) (s .args .h) (s .args .account) (s .args .own) _ _ (u .units-at .ensures) (k .contracts-at .ensures) (o .constraints .ensures) (s .pre .1 .1),
+      ),
+    )
 
 same-length : tie.Need-same-length
 same-length c = emitted-length _ (c .before .before .contracts .ensures) ∙ emitted-length _ (c .before .before .before .before .before .before .before .before .before .constraints .ensures)
 
 returns : tie.Need-returns
-returns c = both-out (c .before .before .before .before .before .before .before .before .before .before .before .before .before .before .before .before .before .before .before .before .args .book .now) (c .before .before .before .before .before .before .before .before .before .before .before .before .before .before .before .before .before .before .before .before .args .h) (c .before .before .before .before .before .before .before .before .before .before .before .before .before .before .before .before .before .before .before .before .args .account) (c .before .before .before .before .before .before .before .before .before .before .before .before .before .before .before .before .before .before .before .before .args .own) _ _ (c .before .before .before .before .before .before .before .before .before .before .before .before .before .before .before .before .before .units-at .ensures) (c .before .before .before .before .before .before .before .before .before .before .before .before .before .before .before .before .contracts-at .ensures) (c .before .before .before .before .before .before .before .before .before .constraints .ensures) (c .before .before .contracts .ensures)
+returns c =
+    let o = c .before .before .before .before .before .before .before .before .before in
+    let k = o .before .before .before .before .before .before .before in
+    let u = k .before in
+    let s = u .before .before .before in
+    both-out (s .args .book .now) (s .args .h) (s .args .account) (s .args .own) _ _ (u .units-at .ensures) (k .contracts-at .ensures) (o .constraints .ensures) (c .before .before .contracts .ensures)
 
 pub all-lines-spec : {M : Type 1} → statement M
 all-lines-spec =

@@ -1,12 +1,13 @@
 -- `walk::contracts` meets its contract. The invariant: the lines of the contracts so far are out. The measure is what is left. Assumes nothing.
 use Prim.Native.Nat.{_≤_, _-_}
 use native.Mathlib.Omega.{arith}
-use Rattle.walk.proofs.Loops.{out-start, out-room, out-more, out-all, contract-room, contract-out}
-use Rattle.walk.specs.Inner.Walks.{contractLinesAt}
+use Rattle.emission.proofs.Loops.{out-start, out-room, out-more, out-all}
+use Rattle.walk.proofs.Records.{contract-room, contract-out}
+use Rattle.lines.specs.Inner.Walks.{contractLinesAt}
 use Rattle.records.specs.Rows.{entryRow, contractRow}
 use Rattle.totals.specs.Inner.Totals.{entryOf}
-use Rattle.lines.proofs.Emission.{emitted-length}
-use Rattle.lines.specs.Inner.Emitted.{Emitted}
+use Rattle.emission.proofs.Emission.{emitted-length}
+use Rattle.emission.specs.Inner.Emitted.{Emitted}
 use Rattle.accounts.specs.Rows.{joined}
 use Rattle.walk.proofs.contracts.Statement.{statement}
 use Rattle.walk.proofs.contracts.Tie as tie

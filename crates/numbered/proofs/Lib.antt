@@ -1,0 +1,4 @@
+pub mod Joined
+pub mod Units
+pub mod OneConstraint
+pub mod Records

@@ -1,0 +1,91 @@
+-- A search among the lines of all constraints and of all contracts, record by record; and the line that it finds among all. Assumes nothing.
+use Prim.Native.Nat.{ℕ, _+_, _<_}
+use mathlib.Core.Path.{_≡_, sym, ap, _∙_}
+use mathlib.Core.List.{List}
+use Rattle.ground.specs.Nth.{found, past, nth}
+use Rattle.ground.proofs.Nth.{nth-front, nth-behind}
+use Rattle.sections.specs.Inner.Order.{Rises}
+use Rattle.sections.specs.Inner.Walk.{Stands, Names}
+use Rattle.sections.proofs.Walk.{stands-next}
+use Rattle.records.specs.declared.rows.Entry.{Entry}
+use Rattle.records.specs.declared.rows.Constraint.{Constraint}
+use Rattle.records.specs.declared.rows.UnitRow.{UnitRow}
+use Rattle.records.specs.declared.rows.Contract.{Contract}
+use Rattle.factors.specs.Naming.{idOf, keyOf}
+use Rattle.totals.specs.Divisors.{overRegions}
+use Rattle.totals.specs.Inner.Totals.{entryOf}
+use Rattle.totals.specs.declared.entries.Totals.{Totals}
+use Rattle.book.specs.Book.{bookIn}
+use Rattle.book.specs.Header.{unitsFrom, contractsFrom}
+use Rattle.book.specs.declared.header.Header.{Header}
+use Rattle.accounts.specs.Rows.{joined}
+use Rattle.statement.specs.declared.Line.{Line}
+use Rattle.lines.specs.Lines.{regionLines}
+use Rattle.lines.specs.Inner.Walks.{conLines, conLinesAt, contractLinesAt, bookLines, Ready}
+use Rattle.lines.proofs.Parts.{conPart, paidPart, both-parts}
+use Rattle.numbered.specs.Numbered.{answerOf, numberedIn}
+use Rattle.numbered.specs.Inner.Sought.{Rests, Bare, Answers, SoughtIn}
+use Rattle.numbered.specs.declared.Numbered.{Numbered}
+use Rattle.numbered.specs.declared.Numbered.the-variants as numbered
+use Rattle.numbered.specs.declared.constraint.Sought.{Sought}
+use Rattle.numbered.specs.declared.constraint.Sought.the-variants as sought
+use Rattle.numbered.proofs.Joined.{pass-more, found-in}
+
+-- ---- what constraint j rests on
+
+module _ (entry : ℕ → Entry) (con : ℕ → Constraint) (n : ℕ) (unit : ℕ → UnitRow) (m : ℕ) (own : Totals) (h : Ready entry con n unit m own) (j : ℕ) (l : j < n) {r : Constraint} (e : r ≡ con j) where
+  pub rests-at : Rests entry r own
+  rests-at = record { rule = rw e (h .rules j l); entries = h .entries; energy = h .energy; shared = rw e (h .shared j l) }
+
+  pub bare-at : Bare unit m r
+  bare-at = record { none = rw e (h .bare j l) }
+
+-- ---- constraints; the first j are passed, r is constraint j, and x is what was found in it
+
+module _ (entry : ℕ → Entry) (con : ℕ → Constraint) (unit : ℕ → UnitRow) (m account : ℕ) (own : Totals) (number j : ℕ) {left : ℕ} (h : nth (joined (conLinesAt entry con unit m account own) j) number ≡ past left) {r : Constraint} (e : r ≡ con j) {x : Sought} (g : SoughtIn unit m r (conLines unit m account r (overRegions (entryOf own) r) (overRegions entry r)) left x) where
+  pub con-found : (n : ℕ) {l : Line} → j < n → x ≡ sought.Line l → Answers (joined (conLinesAt entry con unit m account own) n) number (numbered.Line l)
+  unfolding Answers SoughtIn conLinesAt
+  con-found n b f = found-in (conLinesAt entry con unit m account own) number j h n b (rw e at (rw f at g))
+
+  pub con-passed : {next rest : ℕ} → x ≡ sought.Past next rest → nth (joined (conLinesAt entry con unit m account own) (j + 1)) number ≡ past rest
+  unfolding SoughtIn conLinesAt
+  con-passed f = pass-more (conLinesAt entry con unit m account own) number j h (rw e at ((rw f at g) .1))
+
+  pub con-next : {n next rest : ℕ} → Rises (idOf con) n → Names (keyOf unit) m (idOf con) n → x ≡ sought.Past next rest → j + 1 < n → Stands (keyOf unit) m (idOf con (j + 1)) next
+  unfolding SoughtIn
+  con-next {n} {next} rise names f l = stands-next (keyOf unit) m (idOf con) n rise names j next (rw e at ((rw f at g) .0)) l
+
+-- ---- contracts, likewise
+
+module _ (entry own : ℕ → Entry) (contract : ℕ → Contract) (number i : ℕ) {left : ℕ} (h : nth (joined (contractLinesAt entry own contract) i) number ≡ past left) {k : Contract} (e : k ≡ contract i) {x : Numbered} (g : Answers (joined (regionLines entry own k) 5) left x) where
+  pub paid-found : (n : ℕ) {l : Line} → i < n → x ≡ numbered.Line l → Answers (joined (contractLinesAt entry own contract) n) number (numbered.Line l)
+  unfolding Answers contractLinesAt
+  paid-found n b f = found-in (contractLinesAt entry own contract) number i h n b (rw e at (rw f at g))
+
+  pub paid-passed : {rest : ℕ} → x ≡ numbered.Past rest → nth (joined (contractLinesAt entry own contract) (i + 1)) number ≡ past rest
+  unfolding Answers contractLinesAt
+  paid-passed f = pass-more (contractLinesAt entry own contract) number i h (rw e at (rw f at g))
+
+-- ---- all lines
+
+-- an answer, as the definition gives it
+told : (ls : List Line) (number : ℕ) (x : Numbered) → Answers ls number x → x ≡ numberedIn ls number
+unfolding Answers numberedIn answerOf
+told ls number (numbered.Line l) h = rw h
+told ls number (numbered.Past left) h = rw h
+
+module _ (b : List ℕ) (h : Header) (account : ℕ) (own : Totals) (u k : ℕ) (e : u ≡ unitsFrom h) (f : k ≡ contractsFrom h) (number : ℕ) {x : Numbered} (g : Answers (conPart b h account own u) number x) where
+  pub line-first : {l : Line} → x ≡ numbered.Line l → numbered.Line l ≡ numberedIn (bookLines (bookIn b h) account own) number
+  unfolding Answers
+  line-first {l} p =
+      told _ number (numbered.Line l)
+      (rw (both-parts b h account own u k e f) (nth-front (conPart b h account own u) (paidPart b h account own k) number (rw p at g)))
+
+  module _ {left : ℕ} (p : x ≡ numbered.Past left) where
+    behind : nth (bookLines (bookIn b h) account own) number ≡ nth (paidPart b h account own k) left
+    unfolding Answers
+    behind = rw (both-parts b h account own u k e f) (nth-behind (conPart b h account own u) (paidPart b h account own k) number (rw p at g))
+
+    pub line-behind : (y : Numbered) → Answers (paidPart b h account own k) left y → y ≡ numberedIn (bookLines (bookIn b h) account own) number
+    unfolding numberedIn
+    line-behind y q = told (paidPart b h account own k) left y q ∙ ap answerOf (sym behind)

@@ -1,0 +1,3 @@
+pub mod UnitRuns
+pub mod OneConstraint
+pub mod Once
