@@ -1,0 +1,404 @@
+//! Compares the library with the reference on some hundred thousand books:
+//! accepted ones of every size, every fault alone and two at once, every
+//! truncation, turned bits, noise. The same seed gives the same run; the
+//! environment variable FERVOLATRO_SEED sets another one.
+
+use std::fmt::Write as _;
+
+use fervolatro_testing::book::{Book, Sections};
+use fervolatro_testing::harness::report::{self, shown};
+use fervolatro_testing::requests::damage::{sparse_noise, turn_bit};
+use fervolatro_testing::requests::edges::{self, Edged};
+use fervolatro_testing::requests::faults::{self, Fault, Spot};
+use fervolatro_testing::requests::generate::{accepted_book, Sizes};
+use fervolatro_testing::requests::random::Random;
+use fervolatro_testing::requests::worked::{empty_book, worked_book};
+use fervolatro_testing::{library, reference};
+
+const FEWEST_INPUTS: u64 = 200_000;
+
+/// Whole sizes that random draws seldom give, the largest legal book among them.
+const CHOSEN_SIZES: [Sizes; 6] = [
+    Sizes::LARGEST,
+    sizes(64, 0, 1, 0),
+    sizes(1, 600, 1, 0),
+    sizes(64, 600, 1, 16),
+    sizes(0, 0, 1_024, 0),
+    sizes(0, 0, 5, 16),
+];
+
+const fn sizes(constraints: usize, units: usize, energies: usize, contracts: usize) -> Sizes {
+    Sizes {
+        constraints,
+        units,
+        energies,
+        contracts,
+    }
+}
+
+#[test]
+fn library_and_reference_agree() {
+    let seed = report::seed();
+    let mut run = Run {
+        seed,
+        random: Random::new(seed),
+        family: "",
+        inputs: 0,
+        answers: [0; 11],
+    };
+    for (name, family) in FAMILIES {
+        run.family = name;
+        family(&mut run);
+    }
+    report::print(&run.report());
+    for (number, &given) in run.answers.iter().enumerate() {
+        assert!(given > 0, "no input was answered with {number}");
+    }
+    assert!(run.inputs >= FEWEST_INPUTS, "too few inputs");
+}
+
+/// Inputs of one sort: their name, and what compares them.
+type Family = (&'static str, fn(&mut Run));
+
+const FAMILIES: [Family; 16] = [
+    ("accepted books", accepted_books),
+    ("dates", dates),
+    ("header edges", header_edges),
+    ("counts with the length they give", counts_with_their_length),
+    ("field edges", field_edges),
+    ("modes", modes),
+    ("single faults", single_faults),
+    ("faults of large books", faults_of_large_books),
+    ("two faults", two_faults),
+    ("two fields", two_fields),
+    ("truncations", truncations),
+    ("every bit of small books", every_bit),
+    ("random bits of large books", random_bits),
+    ("noise", noise),
+    ("noise after a right header", noise_after_header),
+    ("one record of noise", one_record_of_noise),
+];
+
+/// One run: where it stands, and how often each answer was given.
+struct Run {
+    seed: u64,
+    random: Random,
+    family: &'static str,
+    inputs: u64,
+    answers: [u64; 11],
+}
+
+impl Run {
+    /// Asks both, and gives the number they agree on, 0 for an accepted book.
+    fn compare(&mut self, book: &[u8]) -> u8 {
+        self.inputs += 1;
+        let library = library::check(book);
+        let reference = reference::check(book);
+        assert!(
+            library == reference,
+            "difference at input {} of seed {} ({}): library {library:?}, reference \
+             {reference:?}, {}",
+            self.inputs,
+            self.seed,
+            self.family,
+            shown(book)
+        );
+        let number = reference.map_or_else(|refusal| refusal.number, |()| 0);
+        self.answers[usize::from(number)] += 1;
+        number
+    }
+
+    /// Compares a book that has to be accepted.
+    fn compare_accepted(&mut self, book: &[u8]) {
+        let number = self.compare(book);
+        assert_eq!(number, 0, "not accepted: {}", shown(book));
+    }
+
+    fn compare_at_edges(&mut self, book: &mut [u8], record: usize, fields: &[Edged]) {
+        edges::each(book, record, fields, |book| {
+            self.compare(book);
+        });
+    }
+
+    /// Compares the book with one bit turned, and turns it back.
+    fn compare_turned(&mut self, book: &mut [u8], bit: usize) {
+        turn_bit(book, bit);
+        self.compare(book);
+        turn_bit(book, bit);
+    }
+
+    /// An accepted book with up to so many records of each kind.
+    fn accepted(&mut self, most: Sizes) -> Book {
+        let sizes = Sizes::draw(&mut self.random, most);
+        accepted_book(&mut self.random, sizes)
+    }
+
+    /// An accepted book with so many records of each kind.
+    fn accepted_of(&mut self, sizes: Sizes) -> Book {
+        accepted_book(&mut self.random, sizes)
+    }
+
+    fn small_and_chosen_sizes(&mut self, small: usize) -> Vec<Sizes> {
+        let mut drawn = |_| Sizes::draw(&mut self.random, Sizes::SMALL);
+        (0..small).map(&mut drawn).chain(CHOSEN_SIZES).collect()
+    }
+
+    fn report(&self) -> String {
+        let mut report = format!("seed {}: {} inputs\n", self.seed, self.inputs);
+        for (number, given) in self.answers.iter().enumerate() {
+            writeln!(report, "answer {number:2}: {given:7}").expect("a string takes it");
+        }
+        report
+    }
+}
+
+fn accepted_books(run: &mut Run) {
+    let mut bytes = Vec::new();
+    for (count, most) in [(30_000, Sizes::SMALL), (3_000, Sizes::LARGEST)] {
+        for _ in 0..count {
+            run.accepted(most).encode_into(&mut bytes);
+            run.compare_accepted(&bytes);
+        }
+    }
+    for sizes in CHOSEN_SIZES.repeat(8) {
+        run.accepted_of(sizes).encode_into(&mut bytes);
+        run.compare_accepted(&bytes);
+    }
+    assert_eq!(run.accepted_of(Sizes::LARGEST).encode().len(), 39_796);
+}
+
+/// Every day from 2024 to 2101, and days and months that there are not.
+fn dates(run: &mut Run) {
+    let mut bytes = empty_book().encode();
+    for year in 2024..=2101 {
+        for month in 0..=13 {
+            for day in 0..=32 {
+                let date: u32 = year * 10_000 + month * 100 + day;
+                bytes[8..12].copy_from_slice(&date.to_le_bytes());
+                run.compare(&bytes);
+            }
+        }
+    }
+}
+
+fn header_edges(run: &mut Run) {
+    for sizes in run.small_and_chosen_sizes(40) {
+        let mut bytes = run.accepted_of(sizes).encode();
+        run.compare_at_edges(&mut bytes, 0, edges::HEADER);
+    }
+}
+
+/// Counts at and past their ends, with as many zero bytes as they ask for.
+fn counts_with_their_length(run: &mut Run) {
+    let mut book = empty_book();
+    for most in [64, 65, 600, 601, 1_024, 1_025, 16, 17] {
+        for section in 0..4 {
+            let mut counts = [0; 4];
+            counts[section] = most;
+            book.constraints.resize_with(counts[0], Default::default);
+            book.units.resize_with(counts[1], Default::default);
+            book.energies.resize_with(counts[2], Default::default);
+            book.contracts.resize_with(counts[3], Default::default);
+            run.compare(&book.encode());
+        }
+    }
+}
+
+/// Every field of the first, the middle and the last record of each kind, just
+/// inside and just past both ends of its range.
+fn field_edges(run: &mut Run) {
+    for sizes in run.small_and_chosen_sizes(200) {
+        let book = run.accepted_of(sizes);
+        let mut bytes = book.encode();
+        for (section, fields) in edges::by_section(&Sections::of(&book.counted_header())) {
+            for spot in Spot::ALL {
+                if let Some(index) = spot.index(section.count) {
+                    run.compare_at_edges(&mut bytes, section.offset(index), fields);
+                }
+            }
+        }
+    }
+}
+
+/// Every service with every mode, each of the five fields that a mode may want
+/// 0 being 0 or not.
+fn modes(run: &mut Run) {
+    for base in [worked_book(), run.accepted_of(sizes(5, 6, 6, 2))] {
+        let mut book = base.clone();
+        let mut bytes = Vec::new();
+        for spot in Spot::ALL {
+            let index = spot
+                .index(base.constraints.len())
+                .expect("it has constraints");
+            for pattern in 0..12 * 5 * 32 {
+                let (service, mode, filled) = (pattern / 32 % 12, pattern / 32 / 12, pattern % 32);
+                let constraint = &mut book.constraints[index];
+                constraint.service = service as u8;
+                constraint.mode = mode as u8;
+                constraint.price = filled & 1;
+                constraint.rcr = filled >> 1 & 1;
+                constraint.usage = filled >> 2 & 1;
+                constraint.rcf = (filled >> 3 & 1) as i32;
+                constraint.drcf = -((filled >> 4 & 1) as i32);
+                book.encode_into(&mut bytes);
+                run.compare(&bytes);
+            }
+            book.constraints[index] = base.constraints[index];
+        }
+    }
+}
+
+/// Each fault alone, in the first, the middle and the last record that can have
+/// it. Each is seen to do what it is made for.
+fn single_faults(run: &mut Run) {
+    let mut bases: Vec<Book> = (0..120).map(|_| run.accepted(Sizes::SMALL)).collect();
+    bases.extend((0..30).map(|_| run.accepted_of(sizes(7, 14, 12, 3))));
+    for fault in faults::all() {
+        for spot in Spot::ALL {
+            let seen = bases
+                .iter()
+                .filter(|base| fault_of(run, base, fault, spot) == fault.gives)
+                .count();
+            assert!(seen > 0, "'{}' never gave {}", fault.name, fault.gives);
+        }
+    }
+}
+
+/// Compares the base with the fault, and gives the number answered.
+fn fault_of(run: &mut Run, base: &Book, fault: &Fault, spot: Spot) -> u8 {
+    let mut book = base.clone();
+    (fault.apply)(&mut book, spot);
+    run.compare(&book.encode())
+}
+
+fn faults_of_large_books(run: &mut Run) {
+    for size in [Sizes::LARGEST, sizes(40, 300, 500, 9)] {
+        let base = run.accepted_of(size);
+        for fault in faults::all() {
+            for spot in Spot::ALL {
+                fault_of(run, &base, fault, spot);
+            }
+        }
+    }
+}
+
+/// Every fault with every other, also with itself, at spots drawn for each.
+fn two_faults(run: &mut Run) {
+    let mut bytes = Vec::new();
+    for first in faults::all() {
+        for second in faults::all() {
+            for _ in 0..12 {
+                let mut book = run.accepted(Sizes::SMALL);
+                (first.apply)(&mut book, *run.random.pick(&Spot::ALL));
+                (second.apply)(&mut book, *run.random.pick(&Spot::ALL));
+                book.encode_into(&mut bytes);
+                run.compare(&bytes);
+            }
+        }
+    }
+}
+
+/// Two fields at their edges at once, sometimes after a fault of the records.
+fn two_fields(run: &mut Run) {
+    let faults: Vec<&Fault> = faults::all().collect();
+    let mut bytes = Vec::new();
+    for _ in 0..80_000 {
+        let mut book = run.accepted(Sizes::SMALL);
+        if run.random.coin() {
+            let fault = *run.random.pick(&faults);
+            (fault.apply)(&mut book, *run.random.pick(&Spot::ALL));
+        }
+        book.encode_into(&mut bytes);
+        let sections = Sections::of(&book.counted_header());
+        set_random_field(&mut run.random, &mut bytes, &sections);
+        set_random_field(&mut run.random, &mut bytes, &sections);
+        run.compare(&bytes);
+    }
+}
+
+/// Sets a field of some record to one of its edges.
+fn set_random_field(random: &mut Random, bytes: &mut [u8], sections: &Sections) {
+    let (section, fields) = *random.pick(&edges::by_section(sections));
+    if section.count > 0 {
+        let record = section.offset(random.below(section.count));
+        let field = *random.pick(fields);
+        field.set(bytes, record, *random.pick(&field.values()));
+    }
+}
+
+/// Every length from 0 to a few bytes past the whole.
+fn truncations(run: &mut Run) {
+    let largest = run.accepted_of(Sizes::LARGEST);
+    let small = run.accepted_of(sizes(3, 4, 5, 2));
+    for book in [worked_book(), small, largest] {
+        let mut bytes = book.encode();
+        let whole = bytes.len();
+        bytes.extend([0; 40]);
+        for length in 0..=bytes.len() {
+            let number = run.compare(&bytes[..length]);
+            assert_eq!(number == 0, length == whole, "length {length} of {whole}");
+        }
+    }
+}
+
+fn every_bit(run: &mut Run) {
+    let small = run.accepted_of(sizes(3, 4, 5, 2));
+    for book in [empty_book(), worked_book(), small] {
+        let mut bytes = book.encode();
+        for bit in 0..8 * bytes.len() {
+            run.compare_turned(&mut bytes, bit);
+        }
+    }
+}
+
+fn random_bits(run: &mut Run) {
+    for size in CHOSEN_SIZES {
+        let mut bytes = run.accepted_of(size).encode();
+        for _ in 0..3_000 {
+            let bit = run.random.below(8 * bytes.len());
+            run.compare_turned(&mut bytes, bit);
+        }
+    }
+}
+
+fn noise(run: &mut Run) {
+    let mut bytes = vec![0; 45_000];
+    for round in 0..30_000 {
+        let most = if round % 100 == 0 { bytes.len() } else { 300 };
+        let length = run.random.below(most + 1);
+        run.random.fill(&mut bytes[..length]);
+        run.compare(&bytes[..length]);
+    }
+}
+
+/// A right header and the right length; noise from some record on.
+fn noise_after_header(run: &mut Run) {
+    for _ in 0..20_000 {
+        let mut bytes = run.accepted(Sizes::SMALL).encode();
+        let start = 24 + run.random.below(bytes.len() - 23);
+        sparse_noise(&mut run.random, &mut bytes[start..]);
+        run.compare(&bytes);
+    }
+}
+
+/// One record replaced: by noise, by zeros, or by another of its kind.
+fn one_record_of_noise(run: &mut Run) {
+    for _ in 0..20_000 {
+        let book = run.accepted(Sizes::SMALL);
+        let mut bytes = book.encode();
+        let sections = Sections::of(&book.counted_header());
+        let (section, _) = *run.random.pick(&edges::by_section(&sections));
+        if section.count == 0 {
+            continue;
+        }
+        let record = section.offset(run.random.below(section.count));
+        let other = section.offset(run.random.below(section.count));
+        let replaced = record..record + section.record_size;
+        match run.random.below(3) {
+            0 => run.random.fill(&mut bytes[replaced]),
+            1 => bytes[replaced].fill(0),
+            _ => bytes.copy_within(other..other + section.record_size, record),
+        }
+        run.compare(&bytes);
+    }
+}
