@@ -1,5 +1,8 @@
 //! The library, asked through the package for users, its answers in plain numbers.
 
+use fervolatro::PoolKind;
+
+use crate::reference::Kind;
 use crate::{Balance, Entry, Heading, Refusal};
 
 pub fn check(book: &[u8]) -> Result<(), Refusal> {
@@ -22,8 +25,12 @@ pub fn accounts(book: &[u8]) -> Result<Vec<u32>, Refusal> {
     fervolatro::accounts(book).map_err(plain)
 }
 
-pub fn pools(book: &[u8]) -> Result<Vec<fervolatro::Pool>, Refusal> {
-    fervolatro::pools(book).map_err(plain)
+pub fn pools_by_number(book: &[u8]) -> Result<Vec<(u32, Kind)>, Refusal> {
+    let pools = fervolatro::pools(book).map_err(plain)?;
+    let numbers = pools.iter().map(|pool| pool.number);
+    assert!(numbers.eq(0..pools.len() as u64), "{pools:?}");
+    let listed = pools.iter().map(|pool| (pool.source.id(), kind(pool.kind)));
+    Ok(listed.collect())
 }
 
 pub fn header(statement: &[u8]) -> Result<Heading, Refusal> {
@@ -52,6 +59,16 @@ pub fn rewrite(statement: &[u8], buffer: &mut [u8]) -> Result<usize, Refusal> {
 
 pub fn whole_rewrite(statement: &[u8]) -> Result<Vec<u8>, Refusal> {
     fervolatro::rewrite(statement).map_err(plain)
+}
+
+fn kind(kind: PoolKind) -> Kind {
+    match kind {
+        PoolKind::Contingency => Kind::Contingency,
+        PoolKind::Fpp => Kind::Fpp,
+        PoolKind::Used => Kind::Used,
+        PoolKind::Unused => Kind::Unused,
+        PoolKind::Contract => Kind::Contract,
+    }
 }
 
 fn plain(refusal: fervolatro::Refusal) -> Refusal {

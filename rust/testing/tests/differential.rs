@@ -1,21 +1,16 @@
-//! Compares the library with the reference on some hundred thousand books:
-//! accepted ones of every size, every fault alone and two at once, every
-//! truncation, turned bits, noise. The same seed gives the same run; the
-//! environment variable FERVOLATRO_SEED sets another one.
-
-use std::fmt::Write as _;
+//! Compares the library's check with the reference's on some hundred thousand books:
+//! accepted ones of every size, every fault alone and two at once, every truncation,
+//! turned bits, noise.
 
 use fervolatro_testing::book::{Book, Sections};
-use fervolatro_testing::harness::report::{self, shown};
-use fervolatro_testing::requests::damage::{sparse_noise, turn_bit};
+use fervolatro_testing::harness::report::shown;
+use fervolatro_testing::harness::{Call, Family, Run, Units, Wanted, LIBRARY};
+use fervolatro_testing::requests::damage::sparse_noise;
 use fervolatro_testing::requests::edges::{self, Edged};
 use fervolatro_testing::requests::faults::{self, Fault, Spot};
-use fervolatro_testing::requests::generate::{accepted_book, Sizes};
+use fervolatro_testing::requests::generate::Sizes;
 use fervolatro_testing::requests::random::Random;
 use fervolatro_testing::requests::worked::{empty_book, worked_book};
-use fervolatro_testing::{library, reference};
-
-const FEWEST_INPUTS: u64 = 200_000;
 
 /// Whole sizes that random draws seldom give, the largest legal book among them.
 const CHOSEN_SIZES: [Sizes; 6] = [
@@ -38,27 +33,12 @@ const fn sizes(constraints: usize, units: usize, energies: usize, contracts: usi
 
 #[test]
 fn library_and_reference_agree() {
-    let seed = report::seed();
-    let mut run = Run {
-        seed,
-        random: Random::new(seed),
-        family: "",
-        inputs: 0,
-        answers: [0; 11],
-    };
-    for (name, family) in FAMILIES {
-        run.family = name;
-        family(&mut run);
-    }
-    report::print(&run.report());
-    for (number, &given) in run.answers.iter().enumerate() {
-        assert!(given > 0, "no input was answered with {number}");
-    }
-    assert!(run.inputs >= FEWEST_INPUTS, "too few inputs");
+    Run::over(&FAMILIES, LIBRARY, Units::Own).finish(&Wanted {
+        inputs: 600_000,
+        answers: &[("check", &[0, 1, 2, 3, 4, 5, 6, 7, 8, 9, 10])],
+        seen: Vec::new(),
+    });
 }
-
-/// Inputs of one sort: their name, and what compares them.
-type Family = (&'static str, fn(&mut Run));
 
 const FAMILIES: [Family; 16] = [
     ("accepted books", accepted_books),
@@ -79,77 +59,28 @@ const FAMILIES: [Family; 16] = [
     ("one record of noise", one_record_of_noise),
 ];
 
-/// One run: where it stands, and how often each answer was given.
-struct Run {
-    seed: u64,
-    random: Random,
-    family: &'static str,
-    inputs: u64,
-    answers: [u64; 11],
+/// Asks both, and gives the number they agree on, 0 for an accepted book.
+fn compare(run: &mut Run, book: &[u8]) -> u8 {
+    run.input();
+    let answer = run.compare(Call::Check, book);
+    answer.map_or_else(|refusal| refusal.number, |_| 0)
 }
 
-impl Run {
-    /// Asks both, and gives the number they agree on, 0 for an accepted book.
-    fn compare(&mut self, book: &[u8]) -> u8 {
-        self.inputs += 1;
-        let library = library::check(book);
-        let reference = reference::check(book);
-        assert!(
-            library == reference,
-            "difference at input {} of seed {} ({}): library {library:?}, reference \
-             {reference:?}, {}",
-            self.inputs,
-            self.seed,
-            self.family,
-            shown(book)
-        );
-        let number = reference.map_or_else(|refusal| refusal.number, |()| 0);
-        self.answers[usize::from(number)] += 1;
-        number
-    }
+/// Compares a book that has to be accepted.
+fn compare_accepted(run: &mut Run, book: &[u8]) {
+    let number = compare(run, book);
+    assert_eq!(number, 0, "not accepted: {}", shown(book));
+}
 
-    /// Compares a book that has to be accepted.
-    fn compare_accepted(&mut self, book: &[u8]) {
-        let number = self.compare(book);
-        assert_eq!(number, 0, "not accepted: {}", shown(book));
-    }
+fn compare_at_edges(run: &mut Run, book: &mut [u8], record: usize, fields: &[Edged]) {
+    edges::each(book, record, fields, |book| {
+        compare(run, book);
+    });
+}
 
-    fn compare_at_edges(&mut self, book: &mut [u8], record: usize, fields: &[Edged]) {
-        edges::each(book, record, fields, |book| {
-            self.compare(book);
-        });
-    }
-
-    /// Compares the book with one bit turned, and turns it back.
-    fn compare_turned(&mut self, book: &mut [u8], bit: usize) {
-        turn_bit(book, bit);
-        self.compare(book);
-        turn_bit(book, bit);
-    }
-
-    /// An accepted book with up to so many records of each kind.
-    fn accepted(&mut self, most: Sizes) -> Book {
-        let sizes = Sizes::draw(&mut self.random, most);
-        accepted_book(&mut self.random, sizes)
-    }
-
-    /// An accepted book with so many records of each kind.
-    fn accepted_of(&mut self, sizes: Sizes) -> Book {
-        accepted_book(&mut self.random, sizes)
-    }
-
-    fn small_and_chosen_sizes(&mut self, small: usize) -> Vec<Sizes> {
-        let mut drawn = |_| Sizes::draw(&mut self.random, Sizes::SMALL);
-        (0..small).map(&mut drawn).chain(CHOSEN_SIZES).collect()
-    }
-
-    fn report(&self) -> String {
-        let mut report = format!("seed {}: {} inputs\n", self.seed, self.inputs);
-        for (number, given) in self.answers.iter().enumerate() {
-            writeln!(report, "answer {number:2}: {given:7}").expect("a string takes it");
-        }
-        report
-    }
+fn small_and_chosen_sizes(run: &mut Run, small: usize) -> Vec<Sizes> {
+    let mut drawn = |_| Sizes::draw(&mut run.random, Sizes::SMALL);
+    (0..small).map(&mut drawn).chain(CHOSEN_SIZES).collect()
 }
 
 fn accepted_books(run: &mut Run) {
@@ -157,12 +88,12 @@ fn accepted_books(run: &mut Run) {
     for (count, most) in [(30_000, Sizes::SMALL), (3_000, Sizes::LARGEST)] {
         for _ in 0..count {
             run.accepted(most).encode_into(&mut bytes);
-            run.compare_accepted(&bytes);
+            compare_accepted(run, &bytes);
         }
     }
     for sizes in CHOSEN_SIZES.repeat(8) {
         run.accepted_of(sizes).encode_into(&mut bytes);
-        run.compare_accepted(&bytes);
+        compare_accepted(run, &bytes);
     }
     assert_eq!(run.accepted_of(Sizes::LARGEST).encode().len(), 39_796);
 }
@@ -175,16 +106,16 @@ fn dates(run: &mut Run) {
             for day in 0..=32 {
                 let date: u32 = year * 10_000 + month * 100 + day;
                 bytes[8..12].copy_from_slice(&date.to_le_bytes());
-                run.compare(&bytes);
+                compare(run, &bytes);
             }
         }
     }
 }
 
 fn header_edges(run: &mut Run) {
-    for sizes in run.small_and_chosen_sizes(40) {
+    for sizes in small_and_chosen_sizes(run, 40) {
         let mut bytes = run.accepted_of(sizes).encode();
-        run.compare_at_edges(&mut bytes, 0, edges::HEADER);
+        compare_at_edges(run, &mut bytes, 0, edges::HEADER);
     }
 }
 
@@ -199,7 +130,7 @@ fn counts_with_their_length(run: &mut Run) {
             book.units.resize_with(counts[1], Default::default);
             book.energies.resize_with(counts[2], Default::default);
             book.contracts.resize_with(counts[3], Default::default);
-            run.compare(&book.encode());
+            compare(run, &book.encode());
         }
     }
 }
@@ -207,13 +138,13 @@ fn counts_with_their_length(run: &mut Run) {
 /// Every field of the first, the middle and the last record of each kind, just
 /// inside and just past both ends of its range.
 fn field_edges(run: &mut Run) {
-    for sizes in run.small_and_chosen_sizes(200) {
+    for sizes in small_and_chosen_sizes(run, 200) {
         let book = run.accepted_of(sizes);
         let mut bytes = book.encode();
         for (section, fields) in edges::by_section(&Sections::of(&book.counted_header())) {
             for spot in Spot::ALL {
                 if let Some(index) = spot.index(section.count) {
-                    run.compare_at_edges(&mut bytes, section.offset(index), fields);
+                    compare_at_edges(run, &mut bytes, section.offset(index), fields);
                 }
             }
         }
@@ -241,7 +172,7 @@ fn modes(run: &mut Run) {
                 constraint.rcf = (filled >> 3 & 1) as i32;
                 constraint.drcf = -((filled >> 4 & 1) as i32);
                 book.encode_into(&mut bytes);
-                run.compare(&bytes);
+                compare(run, &bytes);
             }
             book.constraints[index] = base.constraints[index];
         }
@@ -268,7 +199,7 @@ fn single_faults(run: &mut Run) {
 fn fault_of(run: &mut Run, base: &Book, fault: &Fault, spot: Spot) -> u8 {
     let mut book = base.clone();
     (fault.apply)(&mut book, spot);
-    run.compare(&book.encode())
+    compare(run, &book.encode())
 }
 
 fn faults_of_large_books(run: &mut Run) {
@@ -282,20 +213,10 @@ fn faults_of_large_books(run: &mut Run) {
     }
 }
 
-/// Every fault with every other, also with itself, at spots drawn for each.
 fn two_faults(run: &mut Run) {
-    let mut bytes = Vec::new();
-    for first in faults::all() {
-        for second in faults::all() {
-            for _ in 0..12 {
-                let mut book = run.accepted(Sizes::SMALL);
-                (first.apply)(&mut book, *run.random.pick(&Spot::ALL));
-                (second.apply)(&mut book, *run.random.pick(&Spot::ALL));
-                book.encode_into(&mut bytes);
-                run.compare(&bytes);
-            }
-        }
-    }
+    run.each_two_faults(12, |run, _, bytes| {
+        compare(run, bytes);
+    });
 }
 
 /// Two fields at their edges at once, sometimes after a fault of the records.
@@ -312,7 +233,7 @@ fn two_fields(run: &mut Run) {
         let sections = Sections::of(&book.counted_header());
         set_random_field(&mut run.random, &mut bytes, &sections);
         set_random_field(&mut run.random, &mut bytes, &sections);
-        run.compare(&bytes);
+        compare(run, &bytes);
     }
 }
 
@@ -335,7 +256,7 @@ fn truncations(run: &mut Run) {
         let whole = bytes.len();
         bytes.extend([0; 40]);
         for length in 0..=bytes.len() {
-            let number = run.compare(&bytes[..length]);
+            let number = compare(run, &bytes[..length]);
             assert_eq!(number == 0, length == whole, "length {length} of {whole}");
         }
     }
@@ -345,19 +266,20 @@ fn every_bit(run: &mut Run) {
     let small = run.accepted_of(sizes(3, 4, 5, 2));
     for book in [empty_book(), worked_book(), small] {
         let mut bytes = book.encode();
-        for bit in 0..8 * bytes.len() {
-            run.compare_turned(&mut bytes, bit);
-        }
+        let bits = 0..8 * bytes.len();
+        run.each_turned_bit(&mut bytes, bits, |run, bytes| {
+            compare(run, bytes);
+        });
     }
 }
 
 fn random_bits(run: &mut Run) {
     for size in CHOSEN_SIZES {
         let mut bytes = run.accepted_of(size).encode();
-        for _ in 0..3_000 {
-            let bit = run.random.below(8 * bytes.len());
-            run.compare_turned(&mut bytes, bit);
-        }
+        let bits = run.bits_of(&bytes, 3_000);
+        run.each_turned_bit(&mut bytes, bits, |run, bytes| {
+            compare(run, bytes);
+        });
     }
 }
 
@@ -367,7 +289,7 @@ fn noise(run: &mut Run) {
         let most = if round % 100 == 0 { bytes.len() } else { 300 };
         let length = run.random.below(most + 1);
         run.random.fill(&mut bytes[..length]);
-        run.compare(&bytes[..length]);
+        compare(run, &bytes[..length]);
     }
 }
 
@@ -377,7 +299,7 @@ fn noise_after_header(run: &mut Run) {
         let mut bytes = run.accepted(Sizes::SMALL).encode();
         let start = 24 + run.random.below(bytes.len() - 23);
         sparse_noise(&mut run.random, &mut bytes[start..]);
-        run.compare(&bytes);
+        compare(run, &bytes);
     }
 }
 
@@ -399,6 +321,6 @@ fn one_record_of_noise(run: &mut Run) {
             1 => bytes[replaced].fill(0),
             _ => bytes.copy_within(other..other + section.record_size, record),
         }
-        run.compare(&bytes);
+        compare(run, &bytes);
     }
 }

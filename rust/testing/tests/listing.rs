@@ -1,40 +1,33 @@
 //! Runs the listing program and compares what it prints with the reference's
 //! listing, byte by byte: accounts of books of every size, accounts that no row
-//! names, every sort of refusal, short input and long. The same seed gives the same
-//! run; the environment variable FERVOLATRO_SEED sets another one, and
-//! FERVOLATRO_LISTING another program to be run in the place of
+//! names, every sort of refusal, short input and long. The environment variable
+//! FERVOLATRO_LISTING names another program to be run in the place of
 //! `target/bin/listing`.
 //!
 //! 12 is never given (see `statement.rs`), nor 13: the program lends itself room for
 //! any statement.
 
-use std::collections::BTreeMap;
 use std::env;
 use std::io::{ErrorKind, Write as _};
 use std::process::{Command, Output, Stdio};
 use std::thread;
 
-use fervolatro_testing::book::Book;
-use fervolatro_testing::harness::report::{self, shown};
-use fervolatro_testing::requests::accounts::{named, share_units, some_account, spread};
-use fervolatro_testing::requests::damage::{sparse_noise, turn_bit};
+use fervolatro_testing::harness::report::shown;
+use fervolatro_testing::harness::{asked_of, Run, Units, Wanted, LIBRARY};
+use fervolatro_testing::requests::damage::sparse_noise;
 use fervolatro_testing::requests::edges;
-use fervolatro_testing::requests::faults::{self, Spot};
 use fervolatro_testing::requests::generate::{
-    accepted_book, book_of_longest_statement, set_amounts_to_ends, Sizes,
+    book_of_longest_statement, set_amounts_to_ends, Sizes,
 };
-use fervolatro_testing::requests::halves::{self, book_of_halves};
-use fervolatro_testing::requests::random::Random;
+use fervolatro_testing::requests::halves;
 use fervolatro_testing::requests::worked::{empty_book, worked_book};
 use fervolatro_testing::{in_repository, reference};
-
-const FEWEST_RUNS: usize = 2_000;
 
 /// What the program reads at most; the rest of longer input it leaves.
 const MOST_READ: usize = 65_536;
 
 /// Each kind of run, and how many of it there are at least.
-const FEWEST_OF_KIND: [(Kind, usize); 18] = [
+const FEWEST_OF_KIND: [(Kind, u64); 18] = [
     (Kind::Short, 20),
     (Kind::Long, 20),
     (Kind::Listed, 800),
@@ -57,30 +50,32 @@ const FEWEST_OF_KIND: [(Kind, usize); 18] = [
 
 #[test]
 fn program_and_reference_print_the_same() {
-    let seed = report::seed();
-    let mut inputs = Inputs {
-        random: Random::new(seed),
-        family: "",
-        made: Vec::new(),
-    };
-    for (name, family) in FAMILIES {
-        inputs.family = name;
-        family(&mut inputs);
+    let mut run = Run::new(LIBRARY, Units::Shared);
+    let mut inputs = Vec::new();
+    for (family, make) in FAMILIES {
+        run.enter(family, |run| {
+            make(run, &mut |run, bytes| {
+                run.input();
+                inputs.push(Input { family, bytes });
+            });
+        });
     }
-    let runs = inputs.made.len();
-    let kinds = run_all(&inputs.made, seed);
-    report::print(&format!("seed {seed}: {runs} listings, {kinds:?}\n"));
-    assert!(runs >= FEWEST_RUNS, "too few runs");
-    for (kind, fewest) in FEWEST_OF_KIND {
-        let seen = kinds.get(&kind).copied().unwrap_or(0);
-        assert!(seen >= fewest, "{kind:?}: {seen} of at least {fewest}");
+    let kinds = run_all(&inputs, run.seed());
+    let never = [12, 13].map(Kind::Refused);
+    assert!(!kinds.iter().any(|kind| never.contains(kind)), "12 or 13");
+    for kind in kinds {
+        run.see(format!("{kind:?}"));
     }
-    let never = [12, 13].map(|number| kinds.get(&Kind::Refused(number)));
-    assert_eq!(never, [None; 2], "12 and 13 are never printed");
+    let seen = FEWEST_OF_KIND.map(|(kind, fewest)| (format!("{kind:?}"), fewest));
+    run.finish(&Wanted {
+        inputs: 2_400,
+        answers: &[],
+        seen: seen.to_vec(),
+    });
 }
 
 /// What sort of run it was. A run can be of several.
-#[derive(Clone, Copy, Debug, PartialEq, Eq, PartialOrd, Ord)]
+#[derive(Clone, Copy, Debug, PartialEq, Eq)]
 enum Kind {
     /// Fewer bytes than an account has.
     Short,
@@ -126,24 +121,20 @@ struct Input {
     bytes: Vec<u8>,
 }
 
-/// Runs the program on all inputs, spread over threads, and counts the kinds.
-fn run_all(inputs: &[Input], seed: u64) -> BTreeMap<Kind, usize> {
+/// Runs the program on all inputs, spread over threads, and gives the kinds of each.
+fn run_all(inputs: &[Input], seed: u64) -> Vec<Kind> {
     let threads = thread::available_parallelism().map_or(2, |cores| 2 * cores.get());
     let share = inputs.len().div_ceil(threads);
-    let mut counts = BTreeMap::new();
     thread::scope(|scope| {
         let running: Vec<_> = inputs
             .chunks(share)
             .map(|inputs| scope.spawn(move || run_some(inputs, seed)))
             .collect();
-        for thread in running {
-            let kinds = thread.join().expect("the listings are the same");
-            for kind in kinds {
-                *counts.entry(kind).or_default() += 1;
-            }
-        }
-    });
-    counts
+        let kinds = running.into_iter().map(|thread| thread.join());
+        kinds
+            .flat_map(|kinds| kinds.expect("the listings are the same"))
+            .collect()
+    })
 }
 
 fn run_some(inputs: &[Input], seed: u64) -> Vec<Kind> {
@@ -214,39 +205,11 @@ fn program() -> Command {
     command
 }
 
-/// The inputs, as they are made.
-struct Inputs {
-    random: Random,
-    family: &'static str,
-    made: Vec<Input>,
-}
-
-impl Inputs {
-    fn add(&mut self, bytes: Vec<u8>) {
-        let family = self.family;
-        self.made.push(Input { family, bytes });
-    }
-
-    fn add_asked(&mut self, account: u32, book: &[u8]) {
-        self.add([&account.to_le_bytes(), book].concat());
-    }
-
-    /// An accepted book with up to so many records of each kind, in which accounts
-    /// have several rows.
-    fn accepted(&mut self, most: Sizes) -> Book {
-        let sizes = Sizes::draw(&mut self.random, most);
-        let mut book = accepted_book(&mut self.random, sizes);
-        share_units(&mut self.random, &mut book);
-        book
-    }
-
-    fn some_account(&mut self, book: &Book) -> u32 {
-        some_account(&mut self.random, book)
-    }
-}
+/// Takes an input as it is made.
+type Add<'a> = dyn FnMut(&mut Run, Vec<u8>) + 'a;
 
 /// Inputs of one sort: their name, and what makes them.
-type Family = (&'static str, fn(&mut Inputs));
+type Family = (&'static str, fn(&mut Run, &mut Add));
 
 const FAMILIES: [Family; 14] = [
     ("short input", short_input),
@@ -265,157 +228,142 @@ const FAMILIES: [Family; 14] = [
     ("long input", long_input),
 ];
 
+/// An account, and a book behind it.
+fn asked(account: u32, book: &[u8]) -> Vec<u8> {
+    [&account.to_le_bytes(), book].concat()
+}
+
 /// Up to four bytes, of which four are an account and an empty book.
-fn short_input(inputs: &mut Inputs) {
+fn short_input(run: &mut Run, add: &mut Add) {
     for length in 0..=4 {
         for byte in [0, 1, 7, b'R', 0xFF] {
-            inputs.add(vec![byte; length]);
+            add(run, vec![byte; length]);
         }
-        let front = worked_book().encode()[..length].to_vec();
-        inputs.add(front);
+        add(run, worked_book().encode()[..length].to_vec());
     }
 }
 
-fn worked(inputs: &mut Inputs) {
+fn worked(run: &mut Run, add: &mut Add) {
     let book = worked_book().encode();
     let accounts = [7, 9, 0, 1, 8, 7 << 8, 7 << 16, 7 << 24, u32::MAX];
     for account in accounts {
-        inputs.add_asked(account, &book);
+        add(run, asked(account, &book));
     }
-    inputs.add_asked(7, &empty_book().encode());
+    add(run, asked(7, &empty_book().encode()));
 }
 
-/// Every account of the book, 0, and those just beside one that is there.
-fn every_account(inputs: &mut Inputs) {
+fn every_account(run: &mut Run, add: &mut Add) {
     for _ in 0..120 {
-        let book = inputs.accepted(Sizes::SMALL);
-        let mut asked = named(&book);
-        let beside = asked
-            .first()
-            .map(|of| [of.wrapping_sub(1), of.wrapping_add(1)]);
-        asked.extend(beside.into_iter().flatten());
-        for account in asked {
-            inputs.add_asked(account, &book.encode());
+        let book = run.accepted(Sizes::SMALL);
+        for account in asked_of(&book) {
+            add(run, asked(account, &book.encode()));
         }
     }
 }
 
 /// Also in books without constraints and contracts, whose statements have no lines.
-fn every_region(inputs: &mut Inputs) {
+fn every_region(run: &mut Run, add: &mut Add) {
     let no_lines = Sizes {
         constraints: 0,
         contracts: 0,
         ..Sizes::SMALL
     };
     for round in 0..100 {
-        let most = if round % 5 == 0 {
-            no_lines
-        } else {
-            Sizes::SMALL
+        let most = match round % 5 {
+            0 => no_lines,
+            _ => Sizes::SMALL,
         };
-        let mut book = inputs.accepted(most);
-        let account = inputs.some_account(&book).max(1);
-        spread(&mut inputs.random, &mut book, account);
-        inputs.add_asked(account, &book.encode());
+        let (book, account) = run.in_every_region(most);
+        add(run, asked(account, &book.encode()));
     }
 }
 
-fn halves(inputs: &mut Inputs) {
+fn halves(run: &mut Run, add: &mut Add) {
     for _ in 0..60 {
-        let book = book_of_halves(&mut inputs.random).encode();
+        let book = run.of_halves().encode();
         for account in halves::ACCOUNTS {
-            inputs.add_asked(account, &book);
+            add(run, asked(account, &book));
         }
     }
 }
 
 /// Amounts up to 5,000,000.0000 dollars either way.
-fn ends(inputs: &mut Inputs) {
+fn ends(run: &mut Run, add: &mut Add) {
     for _ in 0..250 {
-        let mut book = inputs.accepted(Sizes::SMALL);
-        set_amounts_to_ends(&mut inputs.random, &mut book);
-        let account = inputs.some_account(&book);
-        inputs.add_asked(account, &book.encode());
+        let book = run.at_ends();
+        let account = run.some_account(&book);
+        add(run, asked(account, &book.encode()));
     }
 }
 
-fn medium_books(inputs: &mut Inputs) {
+fn medium_books(run: &mut Run, add: &mut Add) {
     for _ in 0..100 {
-        let book = inputs.accepted(Sizes::MEDIUM);
-        let account = inputs.some_account(&book);
-        inputs.add_asked(account, &book.encode());
+        let book = run.accepted(Sizes::MEDIUM);
+        let account = run.some_account(&book);
+        add(run, asked(account, &book.encode()));
     }
 }
 
-fn large_books(inputs: &mut Inputs) {
+fn large_books(run: &mut Run, add: &mut Add) {
     for _ in 0..8 {
-        let mut book = accepted_book(&mut inputs.random, Sizes::LARGEST);
-        share_units(&mut inputs.random, &mut book);
+        let book = run.accepted_of(Sizes::LARGEST);
         let bytes = book.encode();
         for _ in 0..4 {
-            let account = inputs.some_account(&book);
-            inputs.add_asked(account, &bytes);
+            let account = run.some_account(&book);
+            add(run, asked(account, &bytes));
         }
     }
 }
 
-fn longest_statement(inputs: &mut Inputs) {
+fn longest_statement(run: &mut Run, add: &mut Add) {
     for _ in 0..4 {
-        let (mut book, account) = book_of_longest_statement(&mut inputs.random);
-        inputs.add_asked(account, &book.encode());
-        set_amounts_to_ends(&mut inputs.random, &mut book);
-        inputs.add_asked(account, &book.encode());
+        let (mut book, account) = book_of_longest_statement(&mut run.random);
+        add(run, asked(account, &book.encode()));
+        set_amounts_to_ends(&mut run.random, &mut book);
+        add(run, asked(account, &book.encode()));
     }
 }
 
-fn header_edges(inputs: &mut Inputs) {
+fn header_edges(run: &mut Run, add: &mut Add) {
     let mut book = worked_book().encode();
     edges::each(&mut book, 0, edges::HEADER, |book| {
-        inputs.add_asked(7, book);
+        add(run, asked(7, book));
     });
 }
 
 /// Each fault in the first, the middle and the last record that can have it.
-fn single_faults(inputs: &mut Inputs) {
-    for fault in faults::all() {
-        for spot in Spot::ALL {
-            let mut book = inputs.accepted(Sizes::MEDIUM);
-            let account = inputs.some_account(&book);
-            (fault.apply)(&mut book, spot);
-            inputs.add_asked(account, &book.encode());
-        }
-    }
+fn single_faults(run: &mut Run, add: &mut Add) {
+    run.each_fault(Sizes::MEDIUM, 1, |run, book, bytes| {
+        let account = run.some_account(book);
+        add(run, asked(account, bytes));
+    });
 }
 
 /// Every length up to the whole, and a byte more.
-fn truncations(inputs: &mut Inputs) {
+fn truncations(run: &mut Run, add: &mut Add) {
     let mut book = worked_book().encode();
     book.push(0);
     for length in 0..=book.len() {
-        inputs.add_asked(7, &book[..length]);
+        add(run, asked(7, &book[..length]));
     }
 }
 
 /// A bit turned, and noise.
-fn damage(inputs: &mut Inputs) {
-    for _ in 0..400 {
-        let book = inputs.accepted(Sizes::SMALL);
-        let account = inputs.some_account(&book);
-        let mut bytes = book.encode();
-        let bit = inputs.random.below(8 * bytes.len());
-        turn_bit(&mut bytes, bit);
-        inputs.add_asked(account, &bytes);
-    }
+fn damage(run: &mut Run, add: &mut Add) {
+    run.each_turned_book(400, |run, book, bytes| {
+        let account = run.some_account(book);
+        add(run, asked(account, bytes));
+    });
     for _ in 0..50 {
-        let mut bytes = vec![0; inputs.random.below(500)];
-        sparse_noise(&mut inputs.random, &mut bytes);
-        inputs.add(bytes);
+        let mut bytes = vec![0; run.random.below(500)];
+        sparse_noise(&mut run.random, &mut bytes);
+        add(run, bytes);
     }
 }
 
 /// Input about as long as the program reads, and longer: a book that would be
 /// accepted, the largest one and noise, with bytes behind them.
-fn long_input(inputs: &mut Inputs) {
+fn long_input(run: &mut Run, add: &mut Add) {
     let lengths = [
         MOST_READ - 1,
         MOST_READ,
@@ -423,23 +371,23 @@ fn long_input(inputs: &mut Inputs) {
         MOST_READ + 4,
         200_000,
     ];
-    let largest = accepted_book(&mut inputs.random, Sizes::LARGEST);
+    let largest = run.accepted_of(Sizes::LARGEST);
     let fronts = [worked_book().encode(), largest.encode(), vec![0xFF; 100]];
     for length in lengths {
         for front in &fronts {
             for filling in [0, b'R'] {
                 let mut book = front.clone();
                 book.resize(length - 4, filling);
-                inputs.add_asked(7, &book);
+                add(run, asked(7, &book));
             }
         }
     }
     let mut noise = vec![0; 3 * MOST_READ];
-    inputs.random.fill(&mut noise);
-    inputs.add(noise);
+    run.random.fill(&mut noise);
+    add(run, noise);
     let mut three = worked_book();
     three.header.run = 100;
     let mut three = three.encode();
     three.resize(MOST_READ + 100, 0);
-    inputs.add_asked(7, &three);
+    add(run, asked(7, &three));
 }

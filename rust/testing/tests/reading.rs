@@ -2,27 +2,21 @@
 //! library writes, those of any lines, each field at and past its edges, other
 //! orders, other counts, truncations, turned bits, noise. For each the header, some
 //! lines, all lines at once, their numbers into several buffers, and writing it again
-//! into several have to be answered the same, and the bytes around the buffer stay
-//! untouched. The same seed gives the same
-//! run; the environment variable FERVOLATRO_SEED sets another one.
-
-use std::fmt::{self, Debug, Write as _};
+//! into several have to be answered the same.
 
 use fervolatro_testing::book::Book;
-use fervolatro_testing::harness::lent::Lent;
-use fervolatro_testing::harness::report::{self, shown};
-use fervolatro_testing::requests::accounts::{named, share_units};
-use fervolatro_testing::requests::damage::{sparse_noise, turn_bit};
+use fervolatro_testing::harness::report::shown;
+use fervolatro_testing::harness::{Answer, Call, Family, Run, Units, Wanted, LIBRARY};
+use fervolatro_testing::requests::accounts::named;
+use fervolatro_testing::requests::damage::sparse_noise;
 use fervolatro_testing::requests::edges;
 use fervolatro_testing::requests::faults::Spot;
-use fervolatro_testing::requests::generate::{accepted_book, book_of_longest_statement, Sizes};
+use fervolatro_testing::requests::generate::{book_of_longest_statement, Sizes};
 use fervolatro_testing::requests::random::Random;
 use fervolatro_testing::requests::statements::{any_line, any_statement, statement_of_every_part};
 use fervolatro_testing::requests::worked::{empty_statement, worked_statement};
 use fervolatro_testing::statement::{Line, Statement};
 use fervolatro_testing::{library, reference, Entry, Refusal};
-
-const FEWEST_INPUTS: u64 = 200_000;
 
 /// A header, and each line, in bytes.
 const RECORD: usize = 24;
@@ -48,76 +42,21 @@ const AMOUNTS: [i64; 9] = [
     i64::MAX,
 ];
 
-/// The calls, and every answer that each of them has.
-const CALLS: [(&str, &[usize]); 5] = [
-    ("header", &[0, 14]),
-    ("line", &[0, 14, 15]),
-    ("lines", &[0, 14]),
-    ("unpack", &[0, 13, 14]),
-    ("rewrite", &[0, 13, 14]),
-];
-
-/// A call, with the index of the line or the room in the buffer.
-#[derive(Clone, Copy)]
-enum Call {
-    Header,
-    Line(u64),
-    Lines,
-    Unpack(usize),
-    Rewrite(usize),
-}
-
-impl Call {
-    /// The place among [`CALLS`].
-    fn kind(self) -> usize {
-        match self {
-            Call::Header => 0,
-            Call::Line(_) => 1,
-            Call::Lines => 2,
-            Call::Unpack(_) => 3,
-            Call::Rewrite(_) => 4,
-        }
-    }
-}
-
-impl fmt::Display for Call {
-    fn fmt(&self, out: &mut fmt::Formatter<'_>) -> fmt::Result {
-        match self {
-            Call::Header => write!(out, "header"),
-            Call::Line(index) => write!(out, "line {index}"),
-            Call::Lines => write!(out, "lines"),
-            Call::Unpack(room) => write!(out, "unpack into {room} bytes"),
-            Call::Rewrite(room) => write!(out, "rewrite into {room} bytes"),
-        }
-    }
-}
-
 #[test]
 fn library_and_reference_read_the_same() {
-    let seed = report::seed();
-    let mut run = Run {
-        seed,
-        random: Random::new(seed),
-        family: "",
-        inputs: 0,
-        answers: [[0; 16]; CALLS.len()],
-    };
-    for (name, family) in FAMILIES {
-        run.family = name;
-        family(&mut run);
-    }
-    report::print(&run.report());
-    for ((call, answers), given) in CALLS.iter().zip(&run.answers) {
-        for (number, &times) in given.iter().enumerate() {
-            let wanted = answers.contains(&number);
-            assert_eq!(times > 0, wanted, "{call}: {number} came {times} times");
-        }
-    }
-    assert!(run.inputs >= FEWEST_INPUTS, "too few inputs");
+    Run::over(&FAMILIES, LIBRARY, Units::Shared).finish(&Wanted {
+        inputs: 200_000,
+        answers: &[
+            ("header", &[0, 14]),
+            ("line", &[0, 14, 15]),
+            ("lines", &[0, 14]),
+            ("unpack", &[0, 13, 14]),
+            ("rewrite", &[0, 13, 14]),
+            ("whole rewrite", &[0, 14]),
+        ],
+        seen: Vec::new(),
+    });
 }
-
-/// Inputs of one sort: their name, and what compares them.
-type Family = (&'static str, fn(&mut Run));
 
 const FAMILIES: [Family; 17] = [
     ("written by the library", written_by_library),
@@ -139,203 +78,113 @@ const FAMILIES: [Family; 17] = [
     ("one line of noise", one_line_of_noise),
 ];
 
-/// One run: where it stands, and how often each call gave each answer.
-struct Run {
-    seed: u64,
-    random: Random,
-    family: &'static str,
-    inputs: u64,
-    answers: [[u64; 16]; CALLS.len()],
-}
-
-impl Run {
-    /// Asks both for the header, for the first line and the last, for lines that
-    /// are past the end and one drawn, for all lines, each what it is by its number,
-    /// and to write the statement again. Says whether the bytes are a statement.
-    fn compare(&mut self, bytes: &[u8]) -> bool {
-        self.inputs += 1;
-        let heading = (library::header(bytes), reference::header(bytes));
-        let is_statement = self.agree(Call::Header, bytes, heading).is_ok();
-        let library = library::lines(bytes);
-        let lines = self.agree(Call::Lines, bytes, (library, reference::lines(bytes)));
-        for index in self.indices(bytes.len()) {
-            if let Ok(line) = self.compare_line(bytes, index) {
-                let of_all = lines.as_ref().expect("it is a statement")[index as usize];
-                assert_eq!(line, of_all, "line {index}, {}", shown(bytes));
-            }
-        }
-        let [just, less, more, _] = self.rooms(FIELDS * lines_in(bytes.len()));
-        for room in [just, less, more] {
-            self.compare_into(Call::Unpack(room), bytes, room);
-        }
-        for room in self.rooms(bytes.len()) {
-            let written = self.compare_into(Call::Rewrite(room), bytes, room);
-            assert!(
-                written.is_none_or(|again| again == bytes),
-                "{}",
+/// Asks both for the header, for the first line and the last, for lines that are past
+/// the end and one drawn, for all lines, each what it is by its number, and to write
+/// the statement again. Says whether the bytes are a statement.
+fn compare(run: &mut Run, bytes: &[u8]) -> bool {
+    run.input();
+    let is_statement = run.compare(Call::Header, bytes).is_ok();
+    let lines = run.compare(Call::Lines, bytes);
+    for index in indices(run, bytes.len()) {
+        if let Ok(line) = compare_line(run, bytes, index) {
+            let Ok(Answer::Lines(lines)) = &lines else {
+                panic!("it has a line and no lines: {}", shown(bytes));
+            };
+            assert_eq!(
+                line,
+                lines[index as usize],
+                "line {index}, {}",
                 shown(bytes)
             );
         }
-        is_statement
     }
-
-    /// Compares bytes that have to be a statement.
-    fn compare_accepted(&mut self, bytes: &[u8]) {
-        assert!(self.compare(bytes), "no statement: {}", shown(bytes));
+    let [just, less, more, _] = rooms(run, FIELDS * lines_in(bytes.len()));
+    for room in [just, less, more] {
+        let _ = run.compare(Call::Unpack { room }, bytes);
     }
-
-    fn compare_line(&mut self, bytes: &[u8], index: u64) -> Result<Entry, Refusal> {
-        let line = (library::line(bytes, index), reference::line(bytes, index));
-        self.agree(Call::Line(index), bytes, line)
-    }
-
-    /// The whole buffers have to be the same. Gives what was written, if anything.
-    fn compare_into(&mut self, call: Call, bytes: &[u8], room: usize) -> Option<Vec<u8>> {
-        let mut theirs = Lent::new(room, self.random.bits() as u8);
-        let mut ours = theirs.clone();
-        let answers = match call {
-            Call::Unpack(_) => (
-                library::unpack(bytes, theirs.buffer()),
-                reference::unpack(bytes, ours.buffer()),
-            ),
-            _ => (
-                library::rewrite(bytes, theirs.buffer()),
-                reference::rewrite(bytes, ours.buffer()),
-            ),
-        };
-        let written = self.agree(call, bytes, answers);
-        assert!(
-            theirs == ours,
-            "{}: {call}: {written:?}, first different byte of the buffer {:?}, {}",
-            self.place(),
-            theirs.first_difference(&ours),
-            shown(bytes)
-        );
-        Some(theirs.buffer()[..written.ok()?].to_vec())
-    }
-
-    /// Both answers have to be the same; it is counted.
-    fn agree<A: PartialEq + Debug>(
-        &mut self,
-        call: Call,
-        bytes: &[u8],
-        (library, reference): (Result<A, Refusal>, Result<A, Refusal>),
-    ) -> Result<A, Refusal> {
-        assert!(
-            library == reference,
-            "{}: {call}: library {library:?}, reference {reference:?}, {}",
-            self.place(),
-            shown(bytes)
-        );
-        let number = reference
-            .as_ref()
-            .map_or_else(|refusal| refusal.number, |_| 0);
-        self.answers[call.kind()][usize::from(number)] += 1;
-        reference
-    }
-
-    /// How a message about a difference begins.
-    fn place(&self) -> String {
-        let Run {
-            seed,
-            family,
-            inputs,
-            ..
-        } = self;
-        format!("difference at input {inputs} of seed {seed} ({family})")
-    }
-
-    /// The first line, the last, one past it, the highest index there is, and one
-    /// drawn: a line that is there, or an index that 32 bits or the length in bytes
-    /// would cut to one.
-    fn indices(&mut self, length: usize) -> [u64; 5] {
-        let lines = lines_in(length) as u64;
-        let inner = self.random.below(lines as usize + 1) as u64;
-        let drawn = *self.random.pick(&[inner, inner, 1 << 32, 1 << 61, 1 << 63]);
-        [0, lines.saturating_sub(1), lines, u64::MAX, drawn]
-    }
-
-    /// Just enough room, one byte less, some more, and any that is no more.
-    fn rooms(&mut self, length: usize) -> [usize; 4] {
-        let longer = *self.random.pick(&[1, 24, 100]);
-        let drawn = self.random.below(length + 1);
-        [length, length.saturating_sub(1), length + longer, drawn]
-    }
-
-    /// What the library writes for an account is a statement, and the header and the
-    /// lines read from it are those that the reference settles, in the same order.
-    fn compare_written(&mut self, book: &Book, account: u32) {
-        let settled = reference::settle(&book.encode(), account).expect("it is settled");
-        let statement = written(book, account);
-        self.compare_accepted(&statement);
-        assert_eq!(library::header(&statement), Ok(settled.header.heading()));
-        for (index, line) in (0..).zip(&settled.lines) {
-            let read = self.compare_line(&statement, index);
-            assert_eq!(read, Ok(line.entry()), "line {index}");
-        }
-        let read = library::lines(&statement).expect("it is a statement");
-        assert!(
-            read.into_iter().eq(settled.lines.iter().map(Line::entry)),
-            "all lines"
-        );
-    }
-
-    /// An accepted book in which accounts have several rows, and an account of it.
-    fn book_and_account(&mut self, most: Sizes) -> (Book, u32) {
-        loop {
-            let sizes = Sizes::draw(&mut self.random, most);
-            let mut book = accepted_book(&mut self.random, sizes);
-            share_units(&mut self.random, &mut book);
-            let accounts = named(&book);
-            if !accounts.is_empty() {
-                return (book, *self.random.pick(&accounts));
-            }
+    for room in rooms(run, bytes.len()) {
+        let (written, mut lent) = run.compare_into(Call::Rewrite { room }, bytes);
+        if let Ok(Answer::Length(length)) = written {
+            assert!(lent.buffer()[..length] == *bytes, "{}", shown(bytes));
         }
     }
+    let _ = run.compare(Call::WholeRewrite, bytes);
+    is_statement
+}
 
-    /// A statement of a few lines: one that the library writes, or one of any lines.
-    fn short_statement(&mut self) -> Statement {
-        if self.random.below(4) == 0 {
-            let (book, account) = self.book_and_account(Sizes::SMALL);
-            return Statement::decode(&written(&book, account));
-        }
-        let lines = self.random.below(7);
-        any_statement(&mut self.random, lines)
+/// Compares bytes that have to be a statement.
+fn compare_accepted(run: &mut Run, bytes: &[u8]) {
+    assert!(compare(run, bytes), "no statement: {}", shown(bytes));
+}
+
+fn compare_line(run: &mut Run, bytes: &[u8], index: u64) -> Result<Entry, Refusal> {
+    match run.compare(Call::Line { index }, bytes)? {
+        Answer::Line(line) => Ok(line),
+        other => panic!("a line is answered by {other:?}"),
     }
+}
 
-    /// Compares each line that a spot names with each of its fields at each edge.
-    fn compare_line_edges(&mut self, statement: &Statement) {
-        let mut bytes = statement.encode();
-        for spot in Spot::ALL {
-            if let Some(index) = spot.index(statement.lines.len()) {
-                edges::each(&mut bytes, line_at(index), edges::LINE, |bytes| {
-                    self.compare(bytes);
-                });
-            }
+/// The first line, the last, one past it, the highest index there is, and one drawn: a
+/// line that is there, or an index that 32 bits or the length in bytes would cut to one.
+fn indices(run: &mut Run, length: usize) -> [u64; 5] {
+    let lines = lines_in(length) as u64;
+    let inner = run.random.below(lines as usize + 1) as u64;
+    let drawn = *run.random.pick(&[inner, inner, 1 << 32, 1 << 61, 1 << 63]);
+    [0, lines.saturating_sub(1), lines, u64::MAX, drawn]
+}
+
+/// Just enough room, one byte less, some more, and any that is no more.
+fn rooms(run: &mut Run, length: usize) -> [usize; 4] {
+    let longer = *run.random.pick(&[1, 24, 100]);
+    let drawn = run.random.below(length + 1);
+    [length, length.saturating_sub(1), length + longer, drawn]
+}
+
+/// What the library writes for an account is a statement, and the header and the lines
+/// read from it are those that the reference settles, in the same order.
+fn compare_written(run: &mut Run, book: &Book, account: u32) {
+    let settled = reference::settle(&book.encode(), account).expect("it is settled");
+    let statement = written(book, account);
+    compare_accepted(run, &statement);
+    assert_eq!(library::header(&statement), Ok(settled.header.heading()));
+    for (index, line) in (0..).zip(&settled.lines) {
+        let read = compare_line(run, &statement, index);
+        assert_eq!(read, Ok(line.entry()), "line {index}");
+    }
+    let lines = settled.lines.iter().map(Line::entry).collect();
+    assert_eq!(library::lines(&statement), Ok(lines));
+}
+
+/// An accepted book in which accounts have several rows, and an account of it.
+fn book_and_account(run: &mut Run, most: Sizes) -> (Book, u32) {
+    loop {
+        let book = run.accepted(most);
+        let accounts = named(&book);
+        if !accounts.is_empty() {
+            return (book, *run.random.pick(&accounts));
         }
     }
+}
 
-    /// Compares the statement with one bit turned, and turns it back.
-    fn compare_turned(&mut self, bytes: &mut [u8], bit: usize) {
-        turn_bit(bytes, bit);
-        self.compare(bytes);
-        turn_bit(bytes, bit);
+/// A statement of a few lines: one that the library writes, or one of any lines.
+fn short_statement(run: &mut Run) -> Statement {
+    if run.random.below(4) == 0 {
+        let (book, account) = book_and_account(run, Sizes::SMALL);
+        return Statement::decode(&written(&book, account));
     }
+    let lines = run.random.below(7);
+    any_statement(&mut run.random, lines)
+}
 
-    fn report(&self) -> String {
-        let [headers, ..] = self.answers;
-        let mut report = format!(
-            "seed {}: {} byte strings, {} of them statements, {} refused\n",
-            self.seed, self.inputs, headers[0], headers[14]
-        );
-        for ((call, answers), given) in CALLS.iter().zip(&self.answers) {
-            for &number in *answers {
-                let times = given[number];
-                writeln!(report, "{call:7} answer {number:2}: {times:7}")
-                    .expect("a string takes it");
-            }
+/// Compares each line that a spot names with each of its fields at each edge.
+fn compare_line_edges(run: &mut Run, statement: &Statement) {
+    let mut bytes = statement.encode();
+    for spot in Spot::ALL {
+        if let Some(index) = spot.index(statement.lines.len()) {
+            edges::each(&mut bytes, line_at(index), edges::LINE, |bytes| {
+                compare(run, bytes);
+            });
         }
-        report
     }
 }
 
@@ -349,21 +198,16 @@ fn line_at(index: usize) -> usize {
     RECORD + index * RECORD
 }
 
-/// The statement that the library writes, in a buffer of just its length.
+/// The statement that the library writes.
 fn written(book: &Book, account: u32) -> Vec<u8> {
-    let book = book.encode();
-    let settled = reference::settle(&book, account).expect("it is settled");
-    let mut buffer = vec![0; line_at(settled.lines.len())];
-    let length = library::statement(&book, account, &mut buffer);
-    assert_eq!(length, Ok(buffer.len()));
-    buffer
+    library::whole_statement(&book.encode(), account).expect("it is settled")
 }
 
 fn written_by_library(run: &mut Run) {
     for (count, most) in [(8_000, Sizes::SMALL), (20, Sizes::LARGEST)] {
         for _ in 0..count {
-            let (book, account) = run.book_and_account(most);
-            run.compare_written(&book, account);
+            let (book, account) = book_and_account(run, most);
+            compare_written(run, &book, account);
         }
     }
 }
@@ -371,10 +215,10 @@ fn written_by_library(run: &mut Run) {
 /// As many lines as there can be, and what is wrong in one of them.
 fn longest_written(run: &mut Run) {
     let (book, account) = book_of_longest_statement(&mut run.random);
-    run.compare_written(&book, account);
+    compare_written(run, &book, account);
     let statement = Statement::decode(&written(&book, account));
     assert_eq!(statement.lines.len(), MOST_LINES);
-    run.compare_line_edges(&statement);
+    compare_line_edges(run, &statement);
 }
 
 fn any_statements(run: &mut Run) {
@@ -382,7 +226,7 @@ fn any_statements(run: &mut Run) {
         let lines = if round % 100 == 0 { 300 } else { 9 };
         let lines = run.random.below(lines);
         let statement = any_statement(&mut run.random, lines);
-        run.compare_accepted(&statement.encode());
+        compare_accepted(run, &statement.encode());
     }
 }
 
@@ -394,14 +238,14 @@ fn dates(run: &mut Run) {
         for month in 0..=13 {
             for day in 0..=32 {
                 statement.header.date = year * 10_000 + month * 100 + day;
-                run.compare(&statement.encode());
+                compare(run, &statement.encode());
             }
         }
     }
 }
 
 fn header_edges(run: &mut Run) {
-    let mut statements: Vec<Statement> = (0..60).map(|_| run.short_statement()).collect();
+    let mut statements: Vec<Statement> = (0..60).map(|_| short_statement(run)).collect();
     statements.extend([empty_statement(), worked_statement()]);
     statements.push(any_statement(&mut run.random, MOST_LINES));
     for statement in statements {
@@ -410,7 +254,7 @@ fn header_edges(run: &mut Run) {
             0,
             edges::STATEMENT_HEADER,
             |bytes| {
-                run.compare(bytes);
+                compare(run, bytes);
             },
         );
     }
@@ -420,12 +264,12 @@ fn header_edges(run: &mut Run) {
 /// past both ends of its ranges.
 fn line_edges(run: &mut Run) {
     for _ in 0..120 {
-        let statement = run.short_statement();
-        run.compare_line_edges(&statement);
+        let statement = short_statement(run);
+        compare_line_edges(run, &statement);
     }
     for _ in 0..10 {
         let statement = statement_of_every_part(&mut run.random);
-        run.compare_line_edges(&statement);
+        compare_line_edges(run, &statement);
     }
 }
 
@@ -457,14 +301,14 @@ fn compare_among_others(run: &mut Run, line: Line) {
     let mut statement = any_statement(&mut run.random, others);
     let index = run.random.below(others + 1);
     statement.lines.insert(index, line);
-    run.compare(&statement.encode());
+    compare(run, &statement.encode());
 }
 
 /// "Line order isn't judged": lines exchanged, repeated, turned round and mixed, and
 /// with a line of another statement, are a statement still.
 fn other_orders(run: &mut Run) {
     for _ in 0..8_000 {
-        let mut statement = run.short_statement();
+        let mut statement = short_statement(run);
         let lines = &mut statement.lines;
         lines.push(any_line(&mut run.random));
         let [one, other] = [0; 2].map(|_| run.random.below(lines.len()));
@@ -474,18 +318,18 @@ fn other_orders(run: &mut Run) {
             2 => lines.reverse(),
             _ => run.random.shuffle(lines),
         }
-        run.compare_accepted(&statement.encode());
+        compare_accepted(run, &statement.encode());
     }
 }
 
 /// No line, few, the most there can be and more, each with the length that the
 /// count gives.
 fn numbers_of_lines(run: &mut Run) {
-    run.compare_accepted(&empty_statement().encode());
+    compare_accepted(run, &empty_statement().encode());
     for lines in [0, 1, 2, 1_000, 2_151, 2_152, 2_153, 2_154, 4_096, 8_192] {
         for _ in 0..3 {
             let bytes = any_statement(&mut run.random, lines).encode();
-            let is_statement = run.compare(&bytes);
+            let is_statement = compare(run, &bytes);
             assert_eq!(is_statement, lines <= MOST_LINES, "{lines} lines");
         }
     }
@@ -501,7 +345,7 @@ fn counts_unlike_the_length(run: &mut Run) {
         let cut = [lines + 256, lines + 2_048, lines + 8_192, lines + 32_768];
         for count in [beside.as_slice(), &ends, &cut].concat() {
             bytes[14..16].copy_from_slice(&count.to_le_bytes());
-            let is_statement = run.compare(&bytes);
+            let is_statement = compare(run, &bytes);
             assert_eq!(is_statement, count == lines, "{count} for {lines}");
         }
     }
@@ -510,55 +354,56 @@ fn counts_unlike_the_length(run: &mut Run) {
 /// Every length from 0 to two lines past the whole; of the longest statement, those
 /// about the end of some line.
 fn truncations(run: &mut Run) {
-    let short = run.short_statement();
+    let short = short_statement(run);
     let every_part = statement_of_every_part(&mut run.random);
     for statement in [empty_statement(), worked_statement(), short, every_part] {
         let mut bytes = statement.encode();
         let whole = bytes.len();
         bytes.extend([0; 2 * RECORD]);
         for length in 0..=bytes.len() {
-            let is_statement = run.compare(&bytes[..length]);
+            let is_statement = compare(run, &bytes[..length]);
             assert_eq!(is_statement, length == whole, "length {length} of {whole}");
         }
     }
     let longest = any_statement(&mut run.random, MOST_LINES).encode();
     for index in (0..MOST_LINES).step_by(37) {
         for length in [line_at(index) - 1, line_at(index), line_at(index) + 1] {
-            assert!(!run.compare(&longest[..length]), "length {length}");
+            assert!(!compare(run, &longest[..length]), "length {length}");
         }
     }
 }
 
 fn every_bit(run: &mut Run) {
-    let short = run.short_statement();
+    let short = short_statement(run);
     let every_part = statement_of_every_part(&mut run.random);
     for statement in [empty_statement(), worked_statement(), short, every_part] {
         let mut bytes = statement.encode();
-        for bit in 0..8 * bytes.len() {
-            run.compare_turned(&mut bytes, bit);
-        }
+        let bits = 0..8 * bytes.len();
+        run.each_turned_bit(&mut bytes, bits, |run, bytes| {
+            compare(run, bytes);
+        });
     }
 }
 
 fn random_bits(run: &mut Run) {
     for (lines, count) in [(60, 3_000), (MOST_LINES, 300)] {
         let mut bytes = any_statement(&mut run.random, lines).encode();
-        for _ in 0..count {
-            let bit = run.random.below(8 * bytes.len());
-            run.compare_turned(&mut bytes, bit);
-        }
+        let bits = run.bits_of(&bytes, count);
+        run.each_turned_bit(&mut bytes, bits, |run, bytes| {
+            compare(run, bytes);
+        });
     }
 }
 
 /// Two fields at their edges at once, of the header or of any line.
 fn two_fields(run: &mut Run) {
     for _ in 0..40_000 {
-        let statement = run.short_statement();
+        let statement = short_statement(run);
         let mut bytes = statement.encode();
         for _ in 0..2 {
             set_random_field(&mut run.random, &mut bytes);
         }
-        run.compare(&bytes);
+        compare(run, &bytes);
     }
 }
 
@@ -579,24 +424,24 @@ fn noise(run: &mut Run) {
         let most = if round % 100 == 0 { bytes.len() } else { 300 };
         let length = run.random.below(most + 1);
         run.random.fill(&mut bytes[..length]);
-        run.compare(&bytes[..length]);
+        compare(run, &bytes[..length]);
     }
 }
 
 /// A right header and the right length; noise from some byte on.
 fn noise_after_header(run: &mut Run) {
     for _ in 0..20_000 {
-        let mut bytes = run.short_statement().encode();
+        let mut bytes = short_statement(run).encode();
         let start = RECORD + run.random.below(bytes.len() - RECORD + 1);
         sparse_noise(&mut run.random, &mut bytes[start..]);
-        run.compare(&bytes);
+        compare(run, &bytes);
     }
 }
 
 /// One line replaced by noise or by zeros.
 fn one_line_of_noise(run: &mut Run) {
     for _ in 0..12_000 {
-        let mut statement = run.short_statement();
+        let mut statement = short_statement(run);
         statement.lines.push(any_line(&mut run.random));
         let start = line_at(run.random.below(statement.lines.len()));
         let mut bytes = statement.encode();
@@ -605,6 +450,6 @@ fn one_line_of_noise(run: &mut Run) {
             0 => line.fill(0),
             _ => sparse_noise(&mut run.random, line),
         }
-        run.compare(&bytes);
+        compare(run, &bytes);
     }
 }

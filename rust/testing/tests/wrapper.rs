@@ -144,7 +144,7 @@ fn lines_are_an_iterator() {
         taken += 1;
     }
     assert_eq!(taken, 12);
-    assert_eq!(read.lines().skip(12).next(), None);
+    assert_eq!(read.lines().nth(12), None);
 }
 
 #[test]

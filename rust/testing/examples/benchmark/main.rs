@@ -86,10 +86,9 @@ fn all_lines(statement: &Asked) -> Times {
         || fervolatro::lines_into(black_box(bytes), black_box(&mut theirs)).is_ok(),
         || fast::lines(black_box(bytes), black_box(&mut ours)).is_ok(),
     );
-    let numbers = theirs.as_chunks().0.iter().copied().map(u64::from_le_bytes);
-    let words = ours.iter().flat_map(Fields::words);
+    let bytes = ours.iter().flat_map(Fields::bytes);
     assert!(
-        numbers.eq(words),
+        theirs.into_iter().eq(bytes),
         "{}: they read differently",
         statement.name
     );

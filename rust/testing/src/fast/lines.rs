@@ -19,10 +19,26 @@ pub struct Fields {
 }
 
 impl Fields {
-    /// As they stand in memory, one word each.
-    pub fn words(&self) -> [u64; 5] {
+    /// As they stand in memory, one word each, little-endian.
+    pub fn bytes(&self) -> [u8; 40] {
         let amount = self.amount.cast_unsigned();
-        [self.id, self.part, self.regions, self.unit, amount]
+        let words = [self.id, self.part, self.regions, self.unit, amount];
+        let bytes = words.map(u64::to_le_bytes);
+        *bytes
+            .as_flattened()
+            .as_array()
+            .expect("five words of eight bytes")
+    }
+
+    pub fn of_bytes(bytes: &[u8; 40]) -> Self {
+        let word = |index: usize| u64_at(bytes, 8 * index);
+        Fields {
+            id: word(0),
+            part: word(1),
+            regions: word(2),
+            unit: word(3),
+            amount: word(4).cast_signed(),
+        }
     }
 }
 

@@ -44,12 +44,29 @@ impl Balances {
     }
 }
 
-/// The lines of "all accounts (each that 11 lets pass)": those that a unit row or an
-/// energy row names, each once.
-fn lines_of_all(book: &Book) -> Vec<Line> {
+/// "All accounts (each that 11 lets pass)": those that a unit row or an energy row
+/// names, each once.
+fn accounts_of(book: &Book) -> BTreeSet<u32> {
     let units = book.units.iter().map(|row| row.account);
     let energies = book.energies.iter().map(|row| row.account);
-    let accounts: BTreeSet<u32> = units.chain(energies).collect();
+    units.chain(energies).collect()
+}
+
+/// The accounts of an accepted book, rising.
+pub fn accounts(bytes: &[u8]) -> Result<Vec<u32>, Refusal> {
+    check(bytes)?;
+    Ok(accounts_of(&Book::decode(bytes)).into_iter().collect())
+}
+
+/// The pools of an accepted book, by their numbers: what each is of, and its kind.
+pub fn pools_by_number(bytes: &[u8]) -> Result<Vec<(u32, Kind)>, Refusal> {
+    check(bytes)?;
+    let pools = pools(&Book::decode(bytes));
+    Ok(pools.iter().map(|pool| (pool.id, pool.kind)).collect())
+}
+
+fn lines_of_all(book: &Book) -> Vec<Line> {
+    let accounts = accounts_of(book);
     let statements = accounts.iter().map(|&account| {
         let settlement = Settlement::of(book, account);
         settlement.statement()

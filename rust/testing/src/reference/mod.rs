@@ -10,11 +10,11 @@ mod reading;
 mod statement;
 
 pub use amounts::round;
-pub use balance::{balance, balances, pools, Balances, Kind, Pool};
+pub use balance::{accounts, balance, balances, pools, pools_by_number, Balances, Kind, Pool};
 pub use check::check;
 pub use listing::{listed, listing};
-pub use reading::{header, line, lines, read, rewrite, unpack};
-pub use statement::{settle, statement};
+pub use reading::{header, line, lines, read, rewrite, unpack, whole_rewrite};
+pub use statement::{settle, statement, whole_statement};
 
 use crate::Refusal;
 

@@ -67,6 +67,11 @@ pub fn rewrite(bytes: &[u8], buffer: &mut [u8]) -> Result<usize, Refusal> {
     write(&read(bytes)?, buffer)
 }
 
+/// The statement by itself, where no buffer is lent.
+pub fn whole_rewrite(bytes: &[u8]) -> Result<Vec<u8>, Refusal> {
+    Ok(read(bytes)?.encode())
+}
+
 /// "Its mark and version are right, its header fields in range, it has 0 to 2,152
 /// lines, ... reserved bytes are 0, account and ids are from 1." "Header, 24 bytes:
 /// RCS; reserved byte; 16-bit version 1; interval, date and run as in the book; ...

@@ -14,6 +14,11 @@ pub fn statement(bytes: &[u8], account: u32, buffer: &mut [u8]) -> Result<usize,
     write(&settle(bytes, account)?, buffer)
 }
 
+/// The statement by itself, where no buffer is lent.
+pub fn whole_statement(bytes: &[u8], account: u32) -> Result<Vec<u8>, Refusal> {
+    Ok(settle(bytes, account)?.encode())
+}
+
 /// 13: "lent buffer shorter than the statement". "A refusal answers its number and
 /// place, ... and the lent buffer holds what it held. Success writes exactly the
 /// statement at the front and answers its length; later bytes stay."
