@@ -8,6 +8,7 @@ use fervolatro_testing::harness::report::shown;
 use fervolatro_testing::harness::{Answer, Call, Family, Run, Units, Wanted, LIBRARY};
 use fervolatro_testing::reference::{self, Kind, Pool};
 use fervolatro_testing::requests::accounts::{named, Holding};
+use fervolatro_testing::requests::chosen::against_the_count;
 use fervolatro_testing::requests::generate::{book_of_longest_statement, Sizes};
 use fervolatro_testing::requests::worked::{empty_book, worked_book};
 use fervolatro_testing::statement::{Line, Statement};
@@ -48,7 +49,7 @@ fn statements_of_all_accounts_make_the_balance() {
     });
 }
 
-const FAMILIES: [Family; 9] = [
+const FAMILIES: [Family; 10] = [
     ("small books", |run| {
         accepted_books(run, 20_000, Sizes::SMALL)
     }),
@@ -60,6 +61,7 @@ const FAMILIES: [Family; 9] = [
     ("amounts at their ends", ends),
     ("large books", large_books),
     ("books of few records", few_records),
+    ("accounts chosen against the count", chosen_accounts),
     ("refused books", refused_books),
     ("turned bits", turned_bits),
 ];
@@ -236,6 +238,27 @@ fn few_records(run: &mut Run) {
             });
             compare_accepted(run, &book);
         }
+    }
+}
+
+/// As the benchmark has them, and with some unit rows handed to accounts that other rows
+/// have, so that some are found.
+fn chosen_accounts(run: &mut Run) {
+    let medium = [8, 10, 14, 18, 22, 26].repeat(80).into_iter();
+    let medium = medium.map(|bits| (Sizes::MEDIUM, bits));
+    let largest = [10, 22].repeat(2).into_iter();
+    let largest = largest.map(|bits| (Sizes::LARGEST, bits));
+    for (sizes, bits) in medium.chain(largest) {
+        let mut book = run.accepted_of(sizes);
+        against_the_count(&mut run.random, &mut book, bits);
+        compare_accepted(run, &book);
+        let accounts = named(&book);
+        for row in &mut book.units {
+            if run.random.below(3) == 0 {
+                row.account = *run.random.pick(&accounts);
+            }
+        }
+        compare_accepted(run, &book);
     }
 }
 

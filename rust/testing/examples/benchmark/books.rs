@@ -3,9 +3,12 @@
 use fervolatro_testing::book::Book;
 use fervolatro_testing::reference;
 use fervolatro_testing::requests::accounts::share_units;
-use fervolatro_testing::requests::generate::{accepted_book, book_of_longest_statement, Sizes};
+use fervolatro_testing::requests::chosen::against_the_count;
+use fervolatro_testing::requests::generate::{
+    accepted_book, book_of_longest_statement, energies_at, Sizes,
+};
 use fervolatro_testing::requests::random::Random;
-use fervolatro_testing::requests::worked::{energy_row, worked_book};
+use fervolatro_testing::requests::worked::worked_book;
 
 const SEED: u64 = 20_250_608;
 
@@ -63,6 +66,17 @@ pub fn all() -> Vec<Asked> {
     ]
 }
 
+/// The largest legal book, its accounts chosen against the library's count of them: the
+/// keys of all share so many leading bits.
+pub fn against(bits: u32) -> Asked {
+    let mut random = Random::new(SEED);
+    let mut book = accepted_book(&mut random, Sizes::LARGEST);
+    leave_no_pool_empty(&mut random, &mut book);
+    against_the_count(&mut random, &mut book, bits);
+    let name = format!("{bits} leading bits alike");
+    Asked::new(&name, &book, book.units[0].account)
+}
+
 /// A book of these sizes, named after them, and an account that has energy.
 pub fn of(sizes: Sizes) -> Asked {
     let mut random = Random::new(SEED);
@@ -93,17 +107,9 @@ fn leave_no_pool_empty(random: &mut Random, book: &mut Book) {
 /// regions stand in place of the few that such a book needs.
 fn largest_of_longest_statement(random: &mut Random) -> Book {
     let (mut book, account) = book_of_longest_statement(random);
-    book.energies.clear();
-    for place in (0..).take(Sizes::LARGEST.energies) {
-        // 205 accounts in a region, together within 20,000,000 kWh of residual.
-        let [ace, asoe] = [0; 2].map(|_: i64| random.between(1, 48_000) as i32);
-        let row = energy_row(
-            account + place / 5,
-            (place % 5) as u8,
-            [-ace, asoe, -ace, asoe],
-        );
-        book.energies.push(row);
-    }
+    let places = (0..).take(Sizes::LARGEST.energies);
+    let places = places.map(|place| (account + place / 5, (place % 5) as u8));
+    book.energies = energies_at(random, places);
     book.total_regions();
     book
 }

@@ -1,4 +1,4 @@
-//! Times the library beside the fast Rust version (`src/fast`), in one run and on the
+//! Times the library beside the fast Rust version (`testing/src/fast`), in one run and on the
 //! same books, and sees how much stack the library's calls use.
 //!
 //!     tests/native                  (only where the machine is not x86-64)
@@ -19,9 +19,12 @@ use fervolatro_testing::fast::Fields;
 use fervolatro_testing::reference::{Kind, Pool};
 use fervolatro_testing::requests::generate::Sizes;
 use fervolatro_testing::{fast, library, reference};
-use timing::{side_by_side, Times};
+use timing::{alone, side_by_side, Times};
 
 const POOLS_AT_A_TIME: usize = 4;
+
+/// How often the library is timed where nothing stands beside it.
+const ROUNDS_ALONE: usize = 40;
 
 const MOST_LINES: usize = 2_152;
 
@@ -52,6 +55,7 @@ fn main() {
     for asked in &books {
         balances(asked);
     }
+    chosen_accounts(&books[2]);
     growth();
     stack::print(&books);
 }
@@ -125,8 +129,7 @@ fn balances(asked: &Asked) {
 /// What a pool takes on average over all, a few at a time: a round of all would be so
 /// long that something else always came between.
 fn average(book: &[u8]) -> Times {
-    let count = reference::pools(&Book::decode(book)).len();
-    let numbers: Vec<u64> = (0..count as u64).collect();
+    let numbers = pool_numbers(book);
     let of_all = numbers.chunks(POOLS_AT_A_TIME).map(|few| {
         side_by_side(
             || {
@@ -139,7 +142,12 @@ fn average(book: &[u8]) -> Times {
             },
         )
     });
-    of_all.sum::<Times>().divided_by(count)
+    of_all.sum::<Times>().divided_by(numbers.len())
+}
+
+fn pool_numbers(book: &[u8]) -> Vec<u64> {
+    let count = reference::pools(&Book::decode(book)).len() as u64;
+    (0..count).collect()
 }
 
 /// The pool of a kind that asks for most: by its lines, of those that have a residual
@@ -159,6 +167,37 @@ fn fullest(book: &[u8], kind: Kind) -> Option<u64> {
         .filter(|(_, pool)| pool.kind == kind)
         .max_by_key(|(number, pool)| asks_for(pool, *number))
         .map(|(number, _)| number)
+}
+
+/// The library's average balance of books whose accounts are chosen against its count of
+/// them, and how many times that is of an ordinary book of the same size: 20 at most are
+/// allowed. The first ten bits alike make one chain of the hash table that the library
+/// had before.
+fn chosen_accounts(ordinary: &Asked) {
+    println!("\nbalance, accounts chosen against the count");
+    println!("book                              bytes    library ns  of an ordinary book's");
+    let usual = library_average(&ordinary.bytes);
+    let row = |asked: &Asked, time: f64| {
+        let (name, bytes, times) = (&asked.name, asked.bytes.len(), time / usual);
+        println!("{name:<32} {bytes:>6} {time:>13.1} {times:>12.1} times");
+    };
+    row(ordinary, usual);
+    for bits in [10, 14, 18, 22] {
+        let asked = books::against(bits);
+        row(&asked, library_average(&asked.bytes));
+    }
+}
+
+/// What a pool takes the library on average over all, in nanoseconds.
+fn library_average(book: &[u8]) -> f64 {
+    let numbers = pool_numbers(book);
+    let of_all = numbers.chunks(POOLS_AT_A_TIME).map(|few| {
+        alone(ROUNDS_ALONE, || {
+            few.iter()
+                .all(|&pool| fervolatro::balance(black_box(book), pool).is_ok())
+        })
+    });
+    of_all.sum::<f64>() / numbers.len() as f64
 }
 
 /// How the times grow with the energy rows and with the unit rows, all else as large

@@ -33,6 +33,13 @@ pub fn side_by_side(mut library: impl FnMut() -> bool, mut fast: impl FnMut() ->
     times
 }
 
+/// The least time of a call over so many rounds, in nanoseconds.
+pub fn alone(rounds: usize, mut call: impl FnMut() -> bool) -> f64 {
+    let calls = calls_of_a_round(&mut call);
+    let times = (0..rounds).map(|_| round(&mut call, calls));
+    times.fold(f64::INFINITY, f64::min)
+}
+
 /// So many calls that they take the time of a round.
 fn calls_of_a_round(call: &mut impl FnMut() -> bool) -> u32 {
     let mut calls = 1;

@@ -10,6 +10,6 @@ pub mod report;
 mod run;
 mod sources;
 
-pub use question::{Answer, Call, Side, FAST, LIBRARY, REFERENCE};
+pub use question::{Answer, Call, Given, Side, FAST, LIBRARY, REFERENCE};
 pub use run::{Family, Run, Units, Wanted};
 pub use sources::asked_of;

@@ -67,11 +67,14 @@ pub enum Answer {
     Lines(Vec<Entry>),
 }
 
+/// What a call is answered by.
+pub type Given = Result<Answer, Refusal>;
+
 /// One that answers: the call, the bytes it is about, the buffer it may write.
 #[derive(Clone, Copy)]
 pub struct Side {
     pub name: &'static str,
-    pub ask: fn(Call, &[u8], &mut [u8]) -> Result<Answer, Refusal>,
+    pub ask: fn(Call, &[u8], &mut [u8]) -> Given,
 }
 
 impl fmt::Debug for Side {

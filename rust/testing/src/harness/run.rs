@@ -4,10 +4,9 @@ use std::collections::BTreeMap;
 use std::fmt::{Display, Write as _};
 
 use super::lent::Lent;
-use super::question::{Answer, Call, Side, REFERENCE};
+use super::question::{Call, Given, Side, REFERENCE};
 use super::report::{self, shown};
 use crate::requests::random::Random;
-use crate::Refusal;
 
 /// Inputs of one sort: their name, and what makes and compares them.
 pub type Family = (&'static str, fn(&mut Run));
@@ -105,7 +104,7 @@ impl Run {
     /// Puts the question to the tested side and to the reference. Answers and whole
     /// buffers have to be the same, and the bytes around a buffer untouched. Gives the
     /// answer, and what the buffer then holds.
-    pub fn compare_into(&mut self, call: Call, bytes: &[u8]) -> (Result<Answer, Refusal>, Lent) {
+    pub fn compare_into(&mut self, call: Call, bytes: &[u8]) -> (Given, Lent) {
         let mut theirs = Lent::new(call.room(), self.random.bits() as u8);
         let mut ours = theirs.clone();
         let tested = (self.tested.ask)(call, bytes, theirs.buffer());
@@ -122,24 +121,18 @@ impl Run {
     }
 
     /// As [`Run::compare_into`], for the answer alone.
-    pub fn compare(&mut self, call: Call, bytes: &[u8]) -> Result<Answer, Refusal> {
+    pub fn compare(&mut self, call: Call, bytes: &[u8]) -> Given {
         self.compare_into(call, bytes).0
     }
 
     /// Puts the question to the tested side, which has to give this answer.
-    pub fn expect(&mut self, call: Call, bytes: &[u8], reference: Result<Answer, Refusal>) {
+    pub fn expect(&mut self, call: Call, bytes: &[u8], reference: Given) {
         let tested = (self.tested.ask)(call, bytes, &mut []);
         self.agree(call, bytes, &tested, &reference);
     }
 
     /// Both answers have to be the same; it is counted.
-    fn agree(
-        &mut self,
-        call: Call,
-        bytes: &[u8],
-        tested: &Result<Answer, Refusal>,
-        reference: &Result<Answer, Refusal>,
-    ) {
+    fn agree(&mut self, call: Call, bytes: &[u8], tested: &Given, reference: &Given) {
         assert!(
             tested == reference,
             "{}: {call:?}: {:?} {tested:?}, reference {reference:?}, {}",

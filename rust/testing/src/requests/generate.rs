@@ -128,6 +128,19 @@ pub fn book_of_longest_statement(random: &mut Random) -> (Book, u32) {
     (book, 7)
 }
 
+/// Energy rows at these places, account and region, with energy of every kind: up to 205
+/// in a region stay within 20,000,000 kWh of residual.
+pub fn energies_at(
+    random: &mut Random,
+    places: impl IntoIterator<Item = (u32, u8)>,
+) -> Vec<EnergyRow> {
+    let rows = places.into_iter().map(|(account, region)| {
+        let [ace, asoe] = [0; 2].map(|_: i64| random.between(1, 48_000) as i32);
+        energy_row(account, region, [-ace, asoe, -ace, asoe])
+    });
+    rows.collect()
+}
+
 /// Sets costs, payments, prices, responses and usage to the ends of their ranges.
 pub fn set_amounts_to_ends(random: &mut Random, book: &mut Book) {
     const MONEY: [i64; 5] = [0, 1, 25_000_000_001, 49_999_999_999, MONEY_LIMIT];

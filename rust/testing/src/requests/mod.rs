@@ -3,6 +3,7 @@
 //! any lines, and the ways in which either can be wrong, or right but different.
 
 pub mod accounts;
+pub mod chosen;
 pub mod damage;
 pub mod edges;
 pub mod faults;
