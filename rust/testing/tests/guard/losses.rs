@@ -739,6 +739,19 @@ fn what_a_rule_names_and_is_gone_is_noticed() {
 }
 
 #[test]
+fn a_refusal_in_other_words_is_noticed() {
+    let repository = Repository::read();
+    let watch = Watch::over(&repository, rules::said_otherwise);
+    for (old, new, about) in [
+        ("| 1 \\| book", "| 1 \\| a book", "Short"),
+        ("the rules above", "the rules", "Field"),
+        ("| 15 \\| ", "| 16 \\| ", "PastEnd"),
+    ] {
+        watch.notices(about, |changed| replace(changed, rules::PAGE, old, new));
+    }
+}
+
+#[test]
 fn a_rule_without_a_cell_is_noticed() {
     let repository = one_rule();
     let watch = Watch::over(&repository, rules::unfounded);

@@ -101,6 +101,11 @@ fn every_sentence_of_the_rules_is_there() {
 }
 
 #[test]
+fn the_refusals_in_words_are_the_rules() {
+    assert_none(&rules::said_otherwise(&Repository::read()));
+}
+
+#[test]
 fn the_fields_of_the_book_page_are_the_definitions() {
     assert_none(&layout::unlike_the_definitions(&Repository::read()));
 }

@@ -2,6 +2,8 @@
 //! functions, theorems, edits and tests that it names are there, and that no sentence of
 //! the rules is lost from it.
 
+use fervolatro::Reason;
+
 use crate::page::{code_spans, rows, Row};
 use crate::rattle::{all_functions, Function};
 use crate::repository::Repository;
@@ -198,6 +200,24 @@ pub fn lost_words(repository: &Repository) -> Vec<String> {
     let is_same = found == WORDS;
     let said = format!("{PAGE} does not have the sentences of 01 as they were: {found:?}");
     (!is_same).then_some(said).into_iter().collect()
+}
+
+/// Refusals for which the package for users has other words than the rules' table. What
+/// are "the rules above" there are the record's own.
+pub fn said_otherwise(repository: &Repository) -> Vec<String> {
+    let rows = rule_rows(repository);
+    let words_of = |reason: &Reason| {
+        let front = format!("{} | ", reason.number());
+        let said = rows.iter().find_map(|row| row.first().strip_prefix(&front));
+        let words = said.and_then(|said| said.split(" | ").next());
+        words.map(|words| words.replace("the rules above", "its rules"))
+    };
+    let other = Reason::ALL
+        .iter()
+        .filter(|reason| words_of(reason).as_deref() != Some(reason.words()));
+    other
+        .map(|reason| format!("{reason:?}: {PAGE} does not say \"{reason}\""))
+        .collect()
 }
 
 /// FNV-1a, of 64 bits.
