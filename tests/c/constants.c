@@ -5,7 +5,7 @@
  *
  * Exits non-zero with a message if an answer is not the expected one. That the
  * constants are also the numbers of the rules, a guard sees
- * (rust/tests/guard/constants.rs).
+ * (rust/testing/tests/guard/constants.rs).
  */
 #include <inttypes.h>
 #include <stdio.h>

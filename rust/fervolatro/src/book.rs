@@ -1,0 +1,253 @@
+//! Books, checked and settled.
+
+use std::collections::BTreeSet;
+
+use crate::calls;
+use crate::kinds::{Mode, Regions, Service};
+use crate::refusal::Refusal;
+use crate::statement::LARGEST_STATEMENT;
+
+/// The bytes of the largest book that is accepted.
+pub const LARGEST_BOOK: usize = 39_796;
+
+/// Checks a book: any bytes are either accepted or refused for one reason, the lowest
+/// number that applies, at the lowest offset where it does.
+///
+/// ```
+/// # fn main() -> Result<(), Box<dyn std::error::Error>> {
+/// let mut book = std::fs::read("../../books/worked.book")?;
+/// fervolatro::check(&book)?;
+/// book[88] = 11; // the first constraint's service
+/// let refusal = fervolatro::check(&book).unwrap_err();
+/// assert_eq!(refusal.to_string(), "refusal 5 at 84: a field outside its rules");
+/// # Ok(())
+/// # }
+/// ```
+pub fn check(book: &[u8]) -> Result<(), Refusal> {
+    calls::check(book).into_result()
+}
+
+/// The statement of an account, of just its length.
+///
+/// ```
+/// # fn main() -> Result<(), Box<dyn std::error::Error>> {
+/// let book = std::fs::read("../../books/worked.book")?;
+/// assert_eq!(fervolatro::statement(&book, 7)?.len(), 312);
+/// let refusal = fervolatro::statement(&book, 8).unwrap_err();
+/// assert_eq!(refusal.reason, fervolatro::Reason::NoAccount);
+/// # Ok(())
+/// # }
+/// ```
+pub fn statement(book: &[u8], account: u32) -> Result<Vec<u8>, Refusal> {
+    let mut statement = vec![0; LARGEST_STATEMENT];
+    let length = statement_into(book, account, &mut statement)?;
+    statement.truncate(length);
+    statement.shrink_to_fit();
+    Ok(statement)
+}
+
+/// Writes an account's statement at the front of the buffer and gives its length;
+/// later bytes stay. A refusal leaves every byte of the buffer.
+///
+/// ```
+/// let mut buffer = [7; 312];
+/// let refusal = fervolatro::statement_into(b"RCB", 1, &mut buffer).unwrap_err();
+/// assert_eq!(refusal.number(), 1);
+/// assert_eq!(buffer, [7; 312]);
+/// ```
+pub fn statement_into(book: &[u8], account: u32, buffer: &mut [u8]) -> Result<usize, Refusal> {
+    calls::statement(book, account, buffer).into_result(buffer.len())
+}
+
+/// The balance of a pool. Amount and sum, in ten-thousandths of a dollar, are each
+/// other's opposite but for what rounding leaves over.
+#[derive(Clone, Copy, Debug, Default, PartialEq, Eq, Hash)]
+pub struct Balance {
+    /// What is to be recovered; 0 for FPP.
+    pub amount: i64,
+    /// How many lines all accounts have in the pool.
+    pub lines: u64,
+    /// What those lines add up to; what accounts must pay is negative.
+    pub sum: i64,
+}
+
+/// Gives the balance of a pool, by its number in the order of [`pools`].
+///
+/// ```
+/// # fn main() -> Result<(), Box<dyn std::error::Error>> {
+/// let book = std::fs::read("../../books/worked.book")?;
+/// let fpp = fervolatro::balance(&book, 0)?;
+/// assert_eq!((fpp.amount, fpp.lines, fpp.sum), (0, 7, 1));
+/// let refusal = fervolatro::balance(&book, 3).unwrap_err();
+/// assert_eq!(refusal.reason, fervolatro::Reason::PastEnd);
+/// # Ok(())
+/// # }
+/// ```
+pub fn balance(book: &[u8], pool: u64) -> Result<Balance, Refusal> {
+    calls::balance(book, pool).into_result()
+}
+
+/// The accounts of a book: those that a unit row or an energy row names, rising, each
+/// once. The book is checked first.
+///
+/// ```
+/// # fn main() -> Result<(), Box<dyn std::error::Error>> {
+/// let book = std::fs::read("../../books/worked.book")?;
+/// assert_eq!(fervolatro::accounts(&book)?, [7, 9]);
+/// # Ok(())
+/// # }
+/// ```
+pub fn accounts(book: &[u8]) -> Result<Vec<u32>, Refusal> {
+    let sections = Sections::of(book)?;
+    let units = sections.units.iter().map(|row| u32_at(row, 8));
+    let energies = sections.energies.iter().map(|row| u32_at(row, 0));
+    let accounts: BTreeSet<u32> = units.chain(energies).collect();
+    Ok(accounts.into_iter().collect())
+}
+
+/// A pool: what is to be recovered from the accounts, and under which number
+/// [`balance`] has it.
+#[derive(Clone, Copy, Debug, PartialEq, Eq, Hash)]
+pub struct Pool {
+    pub number: u64,
+    pub source: Source,
+    pub kind: PoolKind,
+}
+
+/// The constraint or the contract that a pool is of.
+#[derive(Clone, Copy, Debug, PartialEq, Eq, Hash)]
+pub enum Source {
+    Constraint {
+        id: u32,
+        service: Service,
+        regions: Regions,
+        mode: Mode,
+    },
+    Contract {
+        id: u32,
+    },
+}
+
+impl Source {
+    /// The constraint's or the contract's id, as the lines of a statement have it.
+    pub const fn id(&self) -> u32 {
+        match *self {
+            Source::Constraint { id, .. } | Source::Contract { id } => id,
+        }
+    }
+}
+
+/// Which of its source's pools it is.
+#[derive(Clone, Copy, Debug, PartialEq, Eq, PartialOrd, Ord, Hash)]
+pub enum PoolKind {
+    /// The cost of a contingency constraint.
+    Contingency,
+    /// The frequency performance payments of a factored constraint.
+    Fpp,
+    /// The used part of a factored constraint's cost.
+    Used,
+    /// The unused part of a factored constraint's cost, or all of a default one's.
+    Unused,
+    /// The payment of a contract.
+    Contract,
+}
+
+/// The pools of a book, by their numbers: one for a contingency constraint, three for a
+/// factored one, one for a default one, one for a contract, in the order of the book.
+/// The book is checked first.
+///
+/// ```
+/// # fn main() -> Result<(), Box<dyn std::error::Error>> {
+/// use fervolatro::PoolKind;
+///
+/// let book = std::fs::read("../../books/worked.book")?;
+/// let pools = fervolatro::pools(&book)?;
+/// assert!(pools.iter().all(|pool| pool.source.id() == 500));
+/// let kinds: Vec<PoolKind> = pools.iter().map(|pool| pool.kind).collect();
+/// assert_eq!(kinds, [PoolKind::Fpp, PoolKind::Used, PoolKind::Unused]);
+/// # Ok(())
+/// # }
+/// ```
+pub fn pools(book: &[u8]) -> Result<Vec<Pool>, Refusal> {
+    let sections = Sections::of(book)?;
+    let constraints = sections.constraints.iter().flat_map(|record| {
+        let (source, kinds) = constraint_pools(record);
+        kinds.iter().map(move |&kind| (source, kind))
+    });
+    let contracts = sections.contracts.iter().map(|record| {
+        let id = u32_at(record, 0);
+        (Source::Contract { id }, PoolKind::Contract)
+    });
+    let numbered = (0..).zip(constraints.chain(contracts));
+    let pools = numbered.map(|(number, (source, kind))| Pool {
+        number,
+        source,
+        kind,
+    });
+    Ok(pools.collect())
+}
+
+/// A constraint of an accepted book, and its pools in their order.
+fn constraint_pools(record: &[u8; 40]) -> (Source, &'static [PoolKind]) {
+    let mode = Mode::from_number(record[6]).expect("an accepted book has modes 0 to 2");
+    let source = Source::Constraint {
+        id: u32_at(record, 0),
+        service: Service::from_number(record[4]).expect("services are 1 to 10"),
+        regions: Regions::from_mask(record[5]).expect("regions are 1 to 31"),
+        mode,
+    };
+    let kinds: &[PoolKind] = match mode {
+        Mode::Contingency => &[PoolKind::Contingency],
+        Mode::Factored => &[PoolKind::Fpp, PoolKind::Used, PoolKind::Unused],
+        Mode::Default => &[PoolKind::Unused],
+    };
+    (source, kinds)
+}
+
+/// The records of an accepted book, where they stand.
+struct Sections<'b> {
+    constraints: &'b [[u8; 40]],
+    units: &'b [[u8; 20]],
+    energies: &'b [[u8; 24]],
+    contracts: &'b [[u8; 36]],
+}
+
+impl<'b> Sections<'b> {
+    fn of(book: &'b [u8]) -> Result<Self, Refusal> {
+        check(book)?;
+        let count_at = |at: usize| usize::from(u16::from_le_bytes([book[at], book[at + 1]]));
+        // Behind the header and the region entries.
+        let mut rest = &book[84..];
+        Ok(Sections {
+            constraints: take(&mut rest, count_at(14)),
+            units: take(&mut rest, count_at(16)),
+            energies: take(&mut rest, count_at(18)),
+            contracts: take(&mut rest, count_at(20)),
+        })
+    }
+}
+
+/// Takes so many records of `N` bytes from the front.
+fn take<'b, const N: usize>(bytes: &mut &'b [u8], count: usize) -> &'b [[u8; N]] {
+    let (records, rest) = bytes.split_at(N * count);
+    *bytes = rest;
+    records.as_chunks().0
+}
+
+fn u32_at(record: &[u8], at: usize) -> u32 {
+    let bytes = record[at..].first_chunk();
+    u32::from_le_bytes(*bytes.expect("a field lies in its record"))
+}
+
+impl calls::Pool {
+    /// The answer as a result. A balance has place 0, a refusal no balance.
+    fn into_result(self) -> Result<Balance, Refusal> {
+        let balance = Balance {
+            amount: self.amount,
+            lines: self.lines,
+            sum: self.sum,
+        };
+        calls::accepted(self.refusal, self.place, balance == Balance::default())?;
+        Ok(balance)
+    }
+}

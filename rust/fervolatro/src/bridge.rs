@@ -1,0 +1,175 @@
+//! The library asked through the bridge (`tests/bridge`), for the repository's own
+//! tests on a machine that does not run x86-64 code. The bridge is started by
+//! `tests/x86 run target/outer/bridge`; where the environment variable
+//! FERVOLATRO_BRIDGE is set, the program that it names is started instead, with no
+//! arguments.
+
+use crate::calls::{Entry, Heading, Pool, Verdict, Written};
+use std::cell::RefCell;
+use std::env;
+use std::io::{Read, Write};
+use std::path::PathBuf;
+use std::process::{Child, ChildStdin, ChildStdout, Command, Stdio};
+
+/// A running bridge: requests go in, answers come out.
+struct Bridge {
+    child: Child,
+    requests: ChildStdin,
+    answers: ChildStdout,
+}
+
+thread_local! {
+    static BRIDGE: RefCell<Bridge> = RefCell::new(Bridge::start());
+}
+
+impl Bridge {
+    fn start() -> Bridge {
+        let mut child = program()
+            .stdin(Stdio::piped())
+            .stdout(Stdio::piped())
+            .spawn()
+            .expect(
+                "the bridge is built by `tests/x86 cc target/outer/bridge tests/bridge/bridge.c`",
+            );
+        Bridge {
+            requests: child.stdin.take().expect("it was piped"),
+            answers: child.stdout.take().expect("it was piped"),
+            child,
+        }
+    }
+
+    fn send(&mut self, request: &[u8]) {
+        self.requests
+            .write_all(request)
+            .expect("the bridge listens");
+    }
+
+    fn receive(&mut self, bytes: &mut [u8]) {
+        self.answers.read_exact(bytes).expect("the bridge answers");
+    }
+
+    /// Reads an answer of `N` numbers.
+    fn numbers<const N: usize>(&mut self) -> [u64; N] {
+        let mut bytes = [[0; 8]; N];
+        self.receive(bytes.as_flattened_mut());
+        bytes.map(u64::from_le_bytes)
+    }
+}
+
+impl Drop for Bridge {
+    fn drop(&mut self) {
+        // The end of its input would end it too, but that is closed only after this.
+        let _ = self.child.kill();
+        let _ = self.child.wait();
+    }
+}
+
+fn program() -> Command {
+    if let Some(program) = env::var_os("FERVOLATRO_BRIDGE") {
+        return Command::new(program);
+    }
+    let root = PathBuf::from(env!("CARGO_MANIFEST_DIR")).join("../..");
+    let mut command = Command::new(root.join("tests/x86"));
+    command.arg("run").arg(root.join("target/outer/bridge"));
+    command
+}
+
+/// A request: its letter, and the slice that the call reads.
+fn request(call: u8, slice: &[u8]) -> Vec<u8> {
+    let mut request = vec![call];
+    put_slice(&mut request, slice);
+    request
+}
+
+/// Adds a slice to a request: its length, then its bytes.
+fn put_slice(request: &mut Vec<u8>, slice: &[u8]) {
+    let len = u32::try_from(slice.len()).expect("the bridge takes less than 4 GiB");
+    request.extend_from_slice(&len.to_le_bytes());
+    request.extend_from_slice(slice);
+}
+
+/// Sends a request, and reads its answer of `N` numbers.
+fn ask<const N: usize>(request: &[u8]) -> [u64; N] {
+    BRIDGE.with_borrow_mut(|bridge| {
+        bridge.send(request);
+        bridge.numbers()
+    })
+}
+
+/// Sends a request with the buffer at its end, and reads the answer and the
+/// buffer as the call left it.
+fn ask_to_write(mut request: Vec<u8>, buffer: &mut [u8]) -> Written {
+    put_slice(&mut request, buffer);
+    BRIDGE.with_borrow_mut(|bridge| {
+        bridge.send(&request);
+        let [refusal, place, length] = bridge.numbers();
+        bridge.receive(buffer);
+        Written {
+            refusal,
+            place,
+            length,
+        }
+    })
+}
+
+pub(crate) fn check(book: &[u8]) -> Verdict {
+    let [refusal, place] = ask(&request(b'c', book));
+    Verdict { refusal, place }
+}
+
+pub(crate) fn statement(book: &[u8], account: u32, buffer: &mut [u8]) -> Written {
+    let mut request = request(b's', book);
+    request.extend_from_slice(&account.to_le_bytes());
+    ask_to_write(request, buffer)
+}
+
+pub(crate) fn balance(book: &[u8], pool: u64) -> Pool {
+    let mut request = request(b'b', book);
+    request.extend_from_slice(&pool.to_le_bytes());
+    let [refusal, place, amount, lines, sum] = ask(&request);
+    Pool {
+        refusal,
+        place,
+        // The bits are those of the signed numbers.
+        amount: amount.cast_signed(),
+        lines,
+        sum: sum.cast_signed(),
+    }
+}
+
+pub(crate) fn header(statement: &[u8]) -> Heading {
+    let [refusal, place, account, date, interval, run, lines] = ask(&request(b'h', statement));
+    Heading {
+        refusal,
+        place,
+        account,
+        date,
+        interval,
+        run,
+        lines,
+    }
+}
+
+pub(crate) fn line(statement: &[u8], index: u64) -> Entry {
+    let mut request = request(b'l', statement);
+    request.extend_from_slice(&index.to_le_bytes());
+    let [refusal, place, id, part, regions, unit, amount] = ask(&request);
+    Entry {
+        refusal,
+        place,
+        id,
+        part,
+        regions,
+        unit,
+        // The bits are those of the signed number.
+        amount: amount.cast_signed(),
+    }
+}
+
+pub(crate) fn lines(statement: &[u8], buffer: &mut [u8]) -> Written {
+    ask_to_write(request(b'a', statement), buffer)
+}
+
+pub(crate) fn rewrite(statement: &[u8], buffer: &mut [u8]) -> Written {
+    ask_to_write(request(b'r', statement), buffer)
+}

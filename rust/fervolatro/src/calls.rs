@@ -1,0 +1,227 @@
+//! The calls of `include/fervolatro.h`: those of the linked library, or of the bridge
+//! where the tests ask for it.
+
+use crate::refusal::Refusal;
+
+/// `fervolatro_verdict` of `include/fervolatro.h`.
+#[repr(C)]
+pub(crate) struct Verdict {
+    pub(crate) refusal: u64,
+    pub(crate) place: u64,
+}
+
+/// `fervolatro_written` of `include/fervolatro.h`.
+#[repr(C)]
+pub(crate) struct Written {
+    pub(crate) refusal: u64,
+    pub(crate) place: u64,
+    pub(crate) length: u64,
+}
+
+/// `fervolatro_pool` of `include/fervolatro.h`.
+#[repr(C)]
+pub(crate) struct Pool {
+    pub(crate) refusal: u64,
+    pub(crate) place: u64,
+    pub(crate) amount: i64,
+    pub(crate) lines: u64,
+    pub(crate) sum: i64,
+}
+
+/// `fervolatro_heading` of `include/fervolatro.h`.
+#[repr(C)]
+pub(crate) struct Heading {
+    pub(crate) refusal: u64,
+    pub(crate) place: u64,
+    pub(crate) account: u64,
+    pub(crate) date: u64,
+    pub(crate) interval: u64,
+    pub(crate) run: u64,
+    pub(crate) lines: u64,
+}
+
+/// `fervolatro_entry` of `include/fervolatro.h`.
+#[repr(C)]
+pub(crate) struct Entry {
+    pub(crate) refusal: u64,
+    pub(crate) place: u64,
+    pub(crate) id: u64,
+    pub(crate) part: u64,
+    pub(crate) regions: u64,
+    pub(crate) unit: u64,
+    pub(crate) amount: i64,
+}
+
+/// Whether the call was accepted. What is accepted has place 0, and a refusal's other
+/// fields are all 0: what the library never answers is not passed over in silence.
+pub(crate) fn accepted(refusal: u64, place: u64, is_empty: bool) -> Result<(), Refusal> {
+    if refusal == 0 {
+        assert_eq!(place, 0, "what is accepted has no place");
+        return Ok(());
+    }
+    assert!(is_empty, "a refusal gives nothing");
+    Err(Refusal::of(refusal, place))
+}
+
+impl Verdict {
+    pub(crate) fn into_result(self) -> Result<(), Refusal> {
+        accepted(self.refusal, self.place, true)
+    }
+}
+
+impl Written {
+    /// The answer as a result. What is written lies within the buffer.
+    pub(crate) fn into_result(self, room: usize) -> Result<usize, Refusal> {
+        let length = usize::try_from(self.length).expect("a length fits the memory");
+        accepted(self.refusal, self.place, length == 0)?;
+        assert!(length <= room, "{length} bytes written into {room}");
+        Ok(length)
+    }
+}
+
+#[cfg(not(any(target_arch = "x86_64", feature = "native")))]
+pub(crate) use crate::bridge::{balance, check, header, line, lines, rewrite, statement};
+#[cfg(any(target_arch = "x86_64", feature = "native"))]
+pub(crate) use linked::{balance, check, header, line, lines, rewrite, statement};
+
+#[cfg(any(target_arch = "x86_64", feature = "native"))]
+mod linked {
+    use super::{Entry, Heading, Pool, Verdict, Written};
+
+    extern "C" {
+        fn fervolatro_check(book: *const u8, book_len: usize) -> Verdict;
+
+        fn fervolatro_statement(
+            book: *const u8,
+            book_len: usize,
+            account: u32,
+            buffer: *mut u8,
+            buffer_len: usize,
+        ) -> Written;
+
+        fn fervolatro_balance(book: *const u8, book_len: usize, pool: u64) -> Pool;
+
+        fn fervolatro_header(statement: *const u8, statement_len: usize) -> Heading;
+
+        fn fervolatro_line(statement: *const u8, statement_len: usize, index: u64) -> Entry;
+
+        fn fervolatro_lines(
+            statement: *const u8,
+            statement_len: usize,
+            buffer: *mut u8,
+            buffer_len: usize,
+        ) -> Written;
+
+        fn fervolatro_rewrite(
+            statement: *const u8,
+            statement_len: usize,
+            buffer: *mut u8,
+            buffer_len: usize,
+        ) -> Written;
+    }
+
+    pub(crate) fn check(book: &[u8]) -> Verdict {
+        // SAFETY: pointer and length are those of one slice, which nothing changes
+        // while it is lent; the library reads only and keeps nothing.
+        unsafe { fervolatro_check(book.as_ptr(), book.len()) }
+    }
+
+    pub(crate) fn statement(book: &[u8], account: u32, buffer: &mut [u8]) -> Written {
+        // SAFETY: as above; the buffer is lent to this call alone, so it does not
+        // overlap the book, and the library writes within its length.
+        unsafe {
+            fervolatro_statement(
+                book.as_ptr(),
+                book.len(),
+                account,
+                buffer.as_mut_ptr(),
+                buffer.len(),
+            )
+        }
+    }
+
+    pub(crate) fn balance(book: &[u8], pool: u64) -> Pool {
+        // SAFETY: as for a check.
+        unsafe { fervolatro_balance(book.as_ptr(), book.len(), pool) }
+    }
+
+    pub(crate) fn header(statement: &[u8]) -> Heading {
+        // SAFETY: as for a check.
+        unsafe { fervolatro_header(statement.as_ptr(), statement.len()) }
+    }
+
+    pub(crate) fn line(statement: &[u8], index: u64) -> Entry {
+        // SAFETY: as for a check.
+        unsafe { fervolatro_line(statement.as_ptr(), statement.len(), index) }
+    }
+
+    pub(crate) fn lines(statement: &[u8], buffer: &mut [u8]) -> Written {
+        // SAFETY: as for a statement.
+        unsafe {
+            fervolatro_lines(
+                statement.as_ptr(),
+                statement.len(),
+                buffer.as_mut_ptr(),
+                buffer.len(),
+            )
+        }
+    }
+
+    pub(crate) fn rewrite(statement: &[u8], buffer: &mut [u8]) -> Written {
+        // SAFETY: as for a statement.
+        unsafe {
+            fervolatro_rewrite(
+                statement.as_ptr(),
+                statement.len(),
+                buffer.as_mut_ptr(),
+                buffer.len(),
+            )
+        }
+    }
+}
+
+#[cfg(test)]
+mod tests {
+    use super::{Entry, Heading, Pool, Verdict, Written};
+    use std::mem::offset_of;
+
+    const HEADER: &str = include_str!("../../../include/fervolatro.h");
+
+    /// The fields of a struct of the header, each with its offset: all have 64 bits.
+    fn fields_in_header(name: &str) -> Vec<(&'static str, usize)> {
+        let before = HEADER.split(&format!("}} {name};")).next();
+        let body = before.and_then(|text| text.rsplit("typedef struct {").next());
+        let fields = body.expect("the header has the struct").split(';');
+        let names = fields.filter_map(|field| match field.trim().split_once(' ') {
+            Some(("uint64_t" | "int64_t", name)) => Some(name),
+            Some((kind, name)) => panic!("{name} is a {kind}"),
+            None => None,
+        });
+        names.zip((0..).step_by(8)).collect()
+    }
+
+    macro_rules! assert_layout {
+        ($of:ty, $name:literal, $size:literal: $($field:ident)*) => {
+            let here = [$((stringify!($field), offset_of!($of, $field))),*];
+            assert_eq!(fields_in_header($name), here, $name);
+            assert_eq!(size_of::<$of>(), $size, $name);
+        };
+    }
+
+    #[test]
+    fn answers_have_the_header_s_fields() {
+        assert_layout!(Verdict, "fervolatro_verdict", 16: refusal place);
+        assert_layout!(Written, "fervolatro_written", 24: refusal place length);
+        assert_layout!(Pool, "fervolatro_pool", 40: refusal place amount lines sum);
+        assert_layout!(Heading, "fervolatro_heading", 56:
+            refusal place account date interval run lines);
+        assert_layout!(Entry, "fervolatro_entry", 56:
+            refusal place id part regions unit amount);
+        // The numbers of a line, which `Line::of` takes in this order.
+        let fields = ["id", "part", "regions", "unit", "amount"];
+        let numbers = fields.into_iter().zip((0..).step_by(8));
+        assert!(fields_in_header("fervolatro_fields")
+            .into_iter()
+            .eq(numbers));
+    }
+}

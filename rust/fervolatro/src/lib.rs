@@ -1,0 +1,50 @@
+//! The Fervolatro library: books of one five-minute trading interval are checked and
+//! settled, statements are read back.
+//!
+//! A book and a statement are bytes; `docs/BOOK.md` of the repository has their
+//! layout and the rules. Every call answers any bytes, and is proved to answer what
+//! the rules say.
+//!
+//! - [`check`] says whether a book is accepted, and if not, why and where.
+//! - [`statement()`] gives an account's statement, [`accounts`] the accounts there are.
+//! - [`balance`] gives the balance of a pool, [`pools`] the pools there are.
+//! - [`Statement::read`] reads a statement: its heading, and its lines one by one.
+//!
+//! Where nothing may be allocated, [`statement_into`], [`header`], [`line()`],
+//! [`lines_into`] and [`rewrite_into`] do the same with bytes that are lent to them.
+//!
+//! ```
+//! # fn main() -> Result<(), Box<dyn std::error::Error>> {
+//! let book = std::fs::read("../../books/worked.book")?;
+//! for account in fervolatro::accounts(&book)? {
+//!     let statement = fervolatro::statement(&book, account)?;
+//!     for line in &fervolatro::Statement::read(&statement)? {
+//!         println!("{account} {} {} {}", line.id, line.part, line.amount);
+//!     }
+//! }
+//! # Ok(())
+//! # }
+//! ```
+
+mod book;
+#[cfg(all(
+    feature = "bridge",
+    not(any(target_arch = "x86_64", feature = "native"))
+))]
+mod bridge;
+mod calls;
+mod kinds;
+mod numbered;
+mod refusal;
+mod statement;
+
+pub use book::{
+    accounts, balance, check, pools, statement, statement_into, Balance, Pool, PoolKind, Source,
+    LARGEST_BOOK,
+};
+pub use kinds::{Mode, Part, Region, Regions, Service};
+pub use refusal::{Reason, Refusal};
+pub use statement::{
+    header, line, lines_into, rewrite, rewrite_into, Heading, Line, Lines, Statement,
+    LARGEST_STATEMENT, LINE_NUMBERS_SIZE, MOST_LINES,
+};

@@ -1,0 +1,124 @@
+//! Why a call is refused.
+
+use std::error::Error;
+use std::fmt;
+
+use crate::numbered::numbered;
+
+numbered! {
+    /// The reasons for a refusal, as the rules number them: 1 to 10 come from every
+    /// call on a book, 11 to 13 from writing its statement, 15 from asking for a
+    /// balance; 13 to 15 from a call on a statement. The lowest that applies is given.
+    Reason {
+        Short = 1, "book shorter than 84 bytes";
+        Mark = 2, "mark, version or a reserved header byte wrong";
+        Range = 3, "interval, date, run or a count out of its range";
+        Length = 4, "length differs from what the counts give";
+        Field = 5, "a field outside its rules";
+        Order = 6, "constraint ids, (constraint, unit) pairs, (account, region) pairs or contract ids not strictly rising";
+        NoConstraint = 7, "a unit row names no constraint here, or one of mode 0";
+        Factors = 8, "factor sums fail";
+        RegionEntry = 9, "a region entry differs from its rows' sums";
+        ZeroTotal = 10, "a total to divide by is zero";
+        NoAccount = 11, "no unit row and no energy row names the account";
+        Limit = 12, "a line would pass 50,000,000,000 either way";
+        Buffer = 13, "lent buffer shorter than the statement";
+        NoStatement = 14, "bytes are not a statement";
+        PastEnd = 15, "pool or line number past the end";
+    }
+}
+
+/// A refusal: why, and at which record.
+///
+/// ```
+/// let refusal = fervolatro::check(b"RCB").unwrap_err();
+/// assert_eq!(refusal.reason, fervolatro::Reason::Short);
+/// assert_eq!(refusal.number(), 1);
+/// assert_eq!(refusal.to_string(), "refusal 1: book shorter than 84 bytes");
+/// ```
+#[derive(Clone, Copy, Debug, PartialEq, Eq, Hash)]
+pub struct Refusal {
+    /// Why.
+    pub reason: Reason,
+    /// Where the record at fault starts, in bytes from the start of the book; 0 where
+    /// no record is, as with every reason but 5 to 10.
+    pub place: usize,
+}
+
+impl Refusal {
+    /// The number of the reason.
+    pub const fn number(&self) -> u8 {
+        self.reason.number()
+    }
+
+    /// A refusal as the library numbers it.
+    pub(crate) fn of(number: u64, place: u64) -> Self {
+        let reason = u8::try_from(number).ok().and_then(Reason::from_number);
+        Refusal {
+            reason: reason.expect("refusals are numbered 1 to 15"),
+            place: usize::try_from(place).expect("a place lies within the book"),
+        }
+    }
+}
+
+impl fmt::Display for Refusal {
+    fn fmt(&self, out: &mut fmt::Formatter<'_>) -> fmt::Result {
+        let Refusal { reason, place } = self;
+        match place {
+            0 => write!(out, "refusal {}: {reason}", self.number()),
+            _ => write!(out, "refusal {} at {place}: {reason}", self.number()),
+        }
+    }
+}
+
+impl Error for Refusal {}
+
+#[cfg(test)]
+mod tests {
+    use super::{Reason, Refusal};
+
+    /// The meaning of every number, as the rules' table has it.
+    const SAID: [&str; 15] = [
+        "refusal 1: book shorter than 84 bytes",
+        "refusal 2: mark, version or a reserved header byte wrong",
+        "refusal 3: interval, date, run or a count out of its range",
+        "refusal 4: length differs from what the counts give",
+        "refusal 5 at 84: a field outside its rules",
+        "refusal 6 at 84: constraint ids, (constraint, unit) pairs, (account, region) pairs or \
+         contract ids not strictly rising",
+        "refusal 7 at 84: a unit row names no constraint here, or one of mode 0",
+        "refusal 8 at 84: factor sums fail",
+        "refusal 9 at 84: a region entry differs from its rows' sums",
+        "refusal 10 at 84: a total to divide by is zero",
+        "refusal 11: no unit row and no energy row names the account",
+        "refusal 12: a line would pass 50,000,000,000 either way",
+        "refusal 13: lent buffer shorter than the statement",
+        "refusal 14: bytes are not a statement",
+        "refusal 15: pool or line number past the end",
+    ];
+
+    #[test]
+    fn every_refusal_is_said_in_words() {
+        assert_eq!(Reason::ALL.len(), SAID.len());
+        for (number, said) in (1..).zip(SAID) {
+            let place = if said.contains(" at 84: ") { 84 } else { 0 };
+            let refusal = Refusal::of(number, place);
+            assert_eq!(u64::from(refusal.number()), number);
+            assert_eq!(refusal.to_string(), said);
+        }
+    }
+
+    #[test]
+    #[should_panic(expected = "refusals are numbered 1 to 15")]
+    fn a_number_that_no_refusal_has_is_not_passed_over() {
+        Refusal::of(16, 0);
+    }
+
+    /// What `?` and `Box<dyn Error>` ask for.
+    #[test]
+    fn a_refusal_is_an_error() {
+        let boxed: Box<dyn std::error::Error + Send + Sync> = Refusal::of(9, 24).into();
+        let said = "refusal 9 at 24: a region entry differs from its rows' sums";
+        assert_eq!(boxed.to_string(), said);
+    }
+}

@@ -1,0 +1,227 @@
+//! Times the library beside the fast Rust version (`testing/src/fast`), in one run and on the
+//! same books, and sees how much stack the library's calls use.
+//!
+//!     tests/native                  (only where the machine is not x86-64)
+//!     cd rust && cargo run --release --offline --features native --example benchmark
+//!
+//! A time is the least of many rounds, which are made of both by turns: what else
+//! the machine does can only add to it.
+
+mod books;
+mod stack;
+mod timing;
+
+use std::hint::black_box;
+
+use books::Asked;
+use fervolatro_testing::book::Book;
+use fervolatro_testing::fast::Fields;
+use fervolatro_testing::reference::{Kind, Pool};
+use fervolatro_testing::requests::generate::Sizes;
+use fervolatro_testing::{fast, library, reference};
+use timing::{alone, side_by_side, Times};
+
+const POOLS_AT_A_TIME: usize = 4;
+
+/// How often the library is timed where nothing stands beside it.
+const ROUNDS_ALONE: usize = 40;
+
+const MOST_LINES: usize = 2_152;
+
+/// The longest statement, in bytes. Most callers lend so much; one that lends less has
+/// its lines counted first.
+const LONGEST: usize = 24 + 24 * MOST_LINES;
+
+fn main() {
+    let books = books::all();
+    println!("{}", Times::HEADING);
+    for asked in &books {
+        println!("{}", check(asked).row("check", asked));
+    }
+    for asked in &books {
+        println!("{}", statement(asked, LONGEST).row("statement", asked));
+    }
+    for asked in &books {
+        let times = statement(asked, asked.statement().bytes.len());
+        println!("{}", times.row("statement, just room", asked));
+    }
+    for asked in &books {
+        let statement = asked.statement();
+        println!(
+            "{}",
+            all_lines(&statement).row("all lines read", &statement)
+        );
+    }
+    for asked in &books {
+        balances(asked);
+    }
+    chosen_accounts(&books[2]);
+    growth();
+    stack::print(&books);
+}
+
+fn check(asked: &Asked) -> Times {
+    let book = &asked.bytes[..];
+    side_by_side(
+        || fervolatro::check(black_box(book)).is_ok(),
+        || fast::check(black_box(book)).is_ok(),
+    )
+}
+
+fn statement(asked: &Asked, room: usize) -> Times {
+    let (book, account) = (&asked.bytes[..], asked.account);
+    let mut theirs = vec![0; room];
+    let mut ours = theirs.clone();
+    let times = side_by_side(
+        || fervolatro::statement_into(black_box(book), account, black_box(&mut theirs)).is_ok(),
+        || fast::statement(black_box(book), account, black_box(&mut ours)).is_ok(),
+    );
+    assert!(theirs == ours, "{}: they write differently", asked.name);
+    times
+}
+
+/// All lines of a statement, read into numbers. Each has room for the most there can
+/// be.
+fn all_lines(statement: &Asked) -> Times {
+    let bytes = &statement.bytes[..];
+    let mut theirs = vec![0; MOST_LINES * size_of::<Fields>()];
+    let mut ours = vec![Fields::default(); MOST_LINES];
+    let times = side_by_side(
+        || fervolatro::lines_into(black_box(bytes), black_box(&mut theirs)).is_ok(),
+        || fast::lines(black_box(bytes), black_box(&mut ours)).is_ok(),
+    );
+    let bytes = ours.iter().flat_map(Fields::bytes);
+    assert!(
+        theirs.into_iter().eq(bytes),
+        "{}: they read differently",
+        statement.name
+    );
+    times
+}
+
+/// One pool.
+fn balance(asked: &Asked, pool: u64) -> Times {
+    let book = &asked.bytes[..];
+    assert_eq!(
+        library::balance(book, pool),
+        fast::balance(book, pool),
+        "{}, pool {pool}",
+        asked.name
+    );
+    side_by_side(
+        || fervolatro::balance(black_box(book), pool).is_ok(),
+        || fast::balance(black_box(book), pool).is_ok(),
+    )
+}
+
+/// A pool of each kind, and what one takes on average over all.
+fn balances(asked: &Asked) {
+    let book = &asked.bytes[..];
+    for kind in Kind::ALL {
+        if let Some(pool) = fullest(book, kind) {
+            let call = format!("balance, {kind:?}");
+            println!("{}", balance(asked, pool).row(&call, asked));
+        }
+    }
+    println!("{}", average(book).row("balance, average", asked));
+}
+
+/// What a pool takes on average over all, a few at a time: a round of all would be so
+/// long that something else always came between.
+fn average(book: &[u8]) -> Times {
+    let numbers = pool_numbers(book);
+    let of_all = numbers.chunks(POOLS_AT_A_TIME).map(|few| {
+        side_by_side(
+            || {
+                few.iter()
+                    .all(|&pool| fervolatro::balance(black_box(book), pool).is_ok())
+            },
+            || {
+                few.iter()
+                    .all(|&pool| fast::balance(black_box(book), pool).is_ok())
+            },
+        )
+    });
+    of_all.sum::<Times>().divided_by(numbers.len())
+}
+
+fn pool_numbers(book: &[u8]) -> Vec<u64> {
+    let count = reference::pools(&Book::decode(book)).len() as u64;
+    (0..count).collect()
+}
+
+/// The pool of a kind that asks for most: by its lines, of those that have a residual
+/// pool, if there are.
+fn fullest(book: &[u8], kind: Kind) -> Option<u64> {
+    let decoded = Book::decode(book);
+    let has_residual = |id: u32| {
+        let mut constraints = decoded.constraints.iter();
+        constraints.any(|of| of.id == id && of.rcf < 0 && of.drcf < 0)
+    };
+    let asks_for = |pool: &Pool, number: u64| {
+        let lines = fast::balance(book, number).map_or(0, |balance| balance.lines);
+        (has_residual(pool.id), lines)
+    };
+    (0..)
+        .zip(reference::pools(&decoded))
+        .filter(|(_, pool)| pool.kind == kind)
+        .max_by_key(|(number, pool)| asks_for(pool, *number))
+        .map(|(number, _)| number)
+}
+
+/// The library's average balance of books whose accounts are chosen against its count of
+/// them, and how many times that is of an ordinary book of the same size: 20 at most are
+/// allowed. The first ten bits alike make one chain of the hash table that the library
+/// had before.
+fn chosen_accounts(ordinary: &Asked) {
+    println!("\nbalance, accounts chosen against the count");
+    println!("book                              bytes    library ns  of an ordinary book's");
+    let usual = library_average(&ordinary.bytes);
+    let row = |asked: &Asked, time: f64| {
+        let (name, bytes, times) = (&asked.name, asked.bytes.len(), time / usual);
+        println!("{name:<32} {bytes:>6} {time:>13.1} {times:>12.1} times");
+    };
+    row(ordinary, usual);
+    for bits in [10, 14, 18, 22] {
+        let asked = books::against(bits);
+        row(&asked, library_average(&asked.bytes));
+    }
+}
+
+/// What a pool takes the library on average over all, in nanoseconds.
+fn library_average(book: &[u8]) -> f64 {
+    let numbers = pool_numbers(book);
+    let of_all = numbers.chunks(POOLS_AT_A_TIME).map(|few| {
+        alone(ROUNDS_ALONE, || {
+            few.iter()
+                .all(|&pool| fervolatro::balance(black_box(book), pool).is_ok())
+        })
+    });
+    of_all.sum::<f64>() / numbers.len() as f64
+}
+
+/// How the times grow with the energy rows and with the unit rows, all else as large
+/// as may be.
+fn growth() {
+    println!("\ngrowth with the rows\n{}", Times::HEADING);
+    let parts = [0, 1, 2, 4, 8];
+    let largest = Sizes::LARGEST;
+    let by_energies = parts.map(|eighths| Sizes {
+        energies: (largest.energies * eighths / 8).max(1),
+        ..largest
+    });
+    let by_units = parts.map(|eighths| Sizes {
+        units: largest.units * eighths / 8,
+        ..largest
+    });
+    for sizes in by_energies.into_iter().chain(by_units) {
+        let asked = books::of(sizes);
+        println!("{}", check(&asked).row("check", &asked));
+        println!("{}", statement(&asked, LONGEST).row("statement", &asked));
+        let pool = fullest(&asked.bytes, Kind::Contingency).expect("there is one");
+        println!(
+            "{}",
+            balance(&asked, pool).row("balance, Contingency", &asked)
+        );
+    }
+}

@@ -1,0 +1,36 @@
+//! Answers in plain numbers, as the rules have them: what the reference, the fast
+//! version and the library are compared in.
+
+use std::fmt;
+
+pub use fervolatro::{Balance, Heading};
+
+/// Why a call is refused.
+#[derive(Clone, Copy, Debug, PartialEq, Eq)]
+pub struct Refusal {
+    /// The number of the refusal as in the scope document's table.
+    pub number: u8,
+    /// The offset of the record at fault, or 0 where the number has no record.
+    pub place: usize,
+}
+
+/// As the listing has it.
+impl fmt::Display for Refusal {
+    fn fmt(&self, out: &mut fmt::Formatter<'_>) -> fmt::Result {
+        write!(out, "refused {} at {}", self.number, self.place)
+    }
+}
+
+/// What one line of a statement says.
+#[derive(Clone, Copy, Debug, Default, PartialEq, Eq)]
+pub struct Entry {
+    /// Of the constraint, or in parts 9 and 10 of the contract.
+    pub id: u32,
+    pub part: u8,
+    /// One bit each, bit 0 for NSW1.
+    pub regions: u8,
+    /// 0 where the line is not a unit's.
+    pub unit: u32,
+    /// In ten-thousandths of a dollar; what the account must pay is negative.
+    pub amount: i64,
+}

@@ -1,0 +1,140 @@
+//! The questions that are put to both sides, and who answers them.
+
+use std::fmt;
+
+use crate::fast::{self, Fields};
+use crate::reference::Kind;
+use crate::{library, reference, Balance, Entry, Heading, Refusal};
+
+/// A call, with what it takes beside the bytes: an account, a pool, the index of a line,
+/// and how many bytes the buffer has.
+#[derive(Clone, Copy, Debug)]
+pub enum Call {
+    Check,
+    Statement { account: u32, room: usize },
+    WholeStatement { account: u32 },
+    Balance { pool: u64 },
+    Accounts,
+    Pools,
+    Header,
+    Line { index: u64 },
+    Lines,
+    Unpack { room: usize },
+    Rewrite { room: usize },
+    WholeRewrite,
+}
+
+impl Call {
+    /// How many bytes the buffer has; none where the call takes no buffer.
+    pub fn room(self) -> usize {
+        match self {
+            Call::Statement { room, .. } | Call::Unpack { room } | Call::Rewrite { room } => room,
+            _ => 0,
+        }
+    }
+
+    /// The name under which its answers are counted.
+    pub fn name(self) -> &'static str {
+        match self {
+            Call::Check => "check",
+            Call::Statement { .. } => "statement",
+            Call::WholeStatement { .. } => "whole statement",
+            Call::Balance { .. } => "balance",
+            Call::Accounts => "accounts",
+            Call::Pools => "pools",
+            Call::Header => "header",
+            Call::Line { .. } => "line",
+            Call::Lines => "lines",
+            Call::Unpack { .. } => "unpack",
+            Call::Rewrite { .. } => "rewrite",
+            Call::WholeRewrite => "whole rewrite",
+        }
+    }
+}
+
+/// What a call gives that is not refused.
+#[derive(Clone, Debug, PartialEq)]
+pub enum Answer {
+    Nothing,
+    Length(usize),
+    Bytes(Vec<u8>),
+    Balance(Balance),
+    Accounts(Vec<u32>),
+    /// By their numbers: the id of the constraint or contract, and what the pool is.
+    Pools(Vec<(u32, Kind)>),
+    Heading(Heading),
+    Line(Entry),
+    Lines(Vec<Entry>),
+}
+
+/// What a call is answered by.
+pub type Given = Result<Answer, Refusal>;
+
+/// One that answers: the call, the bytes it is about, the buffer it may write.
+#[derive(Clone, Copy)]
+pub struct Side {
+    pub name: &'static str,
+    pub ask: fn(Call, &[u8], &mut [u8]) -> Given,
+}
+
+impl fmt::Debug for Side {
+    fn fmt(&self, out: &mut fmt::Formatter<'_>) -> fmt::Result {
+        out.write_str(self.name)
+    }
+}
+
+/// A side that has every call, under the same names.
+macro_rules! side {
+    ($of:ident) => {
+        Side {
+            name: stringify!($of),
+            ask: |call, bytes, buffer| match call {
+                Call::Check => $of::check(bytes).map(|()| Answer::Nothing),
+                Call::Statement { account, .. } => {
+                    $of::statement(bytes, account, buffer).map(Answer::Length)
+                }
+                Call::WholeStatement { account } => {
+                    $of::whole_statement(bytes, account).map(Answer::Bytes)
+                }
+                Call::Balance { pool } => $of::balance(bytes, pool).map(Answer::Balance),
+                Call::Accounts => $of::accounts(bytes).map(Answer::Accounts),
+                Call::Pools => $of::pools_by_number(bytes).map(Answer::Pools),
+                Call::Header => $of::header(bytes).map(Answer::Heading),
+                Call::Line { index } => $of::line(bytes, index).map(Answer::Line),
+                Call::Lines => $of::lines(bytes).map(Answer::Lines),
+                Call::Unpack { .. } => $of::unpack(bytes, buffer).map(Answer::Length),
+                Call::Rewrite { .. } => $of::rewrite(bytes, buffer).map(Answer::Length),
+                Call::WholeRewrite => $of::whole_rewrite(bytes).map(Answer::Bytes),
+            },
+        }
+    };
+}
+
+pub const LIBRARY: Side = side!(library);
+
+pub const REFERENCE: Side = side!(reference);
+
+/// The fast version, which has the calls that are timed.
+pub const FAST: Side = Side {
+    name: "fast",
+    ask: |call, bytes, buffer| match call {
+        Call::Check => fast::check(bytes).map(|()| Answer::Nothing),
+        Call::Statement { account, .. } => {
+            fast::statement(bytes, account, buffer).map(Answer::Length)
+        }
+        Call::Balance { pool } => fast::balance(bytes, pool).map(Answer::Balance),
+        Call::Unpack { .. } => fast_unpack(bytes, buffer).map(Answer::Length),
+        _ => panic!("the fast version has no {}", call.name()),
+    },
+};
+
+/// The fast version writes numbers, not bytes: the buffer's go in and come out again.
+fn fast_unpack(statement: &[u8], buffer: &mut [u8]) -> Result<usize, Refusal> {
+    let slots = buffer.as_chunks_mut::<40>().0;
+    let mut fields: Vec<Fields> = slots.iter().map(Fields::of_bytes).collect();
+    let count = fast::lines(statement, &mut fields)?;
+    for (slot, fields) in slots.iter_mut().zip(&fields) {
+        *slot = fields.bytes();
+    }
+    Ok(40 * count)
+}

@@ -1,0 +1,29 @@
+//! What the Fervolatro library is tested and measured with.
+//!
+//! [`library`] asks the library, through the package for users, for plain numbers.
+//! [`mod@reference`] is a second, independent statement of the same rules, written from
+//! the scope document (01) alone; [`book`] and [`statement`] have the records and their
+//! bytes, [`requests`] what books and statements are made with, [`harness`] what
+//! compares the two on some hundred thousand of each. [`fast`] is the same once more,
+//! written for speed, for the benchmark to hold the library against.
+
+use std::path::PathBuf;
+
+mod answers;
+pub mod book;
+pub mod fast;
+pub mod field;
+pub mod harness;
+pub mod library;
+pub mod reference;
+pub mod requests;
+pub mod statement;
+
+pub use answers::{Balance, Entry, Heading, Refusal};
+
+/// A file or a folder of the repository, by its path from the root.
+pub fn in_repository(path: &str) -> PathBuf {
+    PathBuf::from(env!("CARGO_MANIFEST_DIR"))
+        .join("../..")
+        .join(path)
+}

@@ -1,0 +1,31 @@
+//! The reference: the rules of the scope document (01), written from it alone
+//! and in its order. Where 01 has a sentence for a rule, that sentence stands
+//! over it. It is written to be compared with 01 by eye, not for speed.
+
+mod amounts;
+mod balance;
+mod check;
+mod listing;
+mod reading;
+mod statement;
+
+pub use amounts::round;
+pub use balance::{accounts, balance, balances, pools, pools_by_number, Balances, Kind, Pool};
+pub use check::check;
+pub use listing::{listed, listing};
+pub use reading::{header, line, lines, read, rewrite, unpack, whole_rewrite};
+pub use statement::{settle, statement, whole_statement};
+
+use crate::Refusal;
+
+/// A refusal that has no record has place 0.
+fn refuse_unless(number: u8, holds: bool) -> Result<(), Refusal> {
+    refuse_at(number, (!holds).then_some(0))
+}
+
+fn refuse_at(number: u8, fault: Option<usize>) -> Result<(), Refusal> {
+    match fault {
+        Some(place) => Err(Refusal { number, place }),
+        None => Ok(()),
+    }
+}

@@ -1,0 +1,15 @@
+//! What the tests build books and statements with: repeatable random numbers, the
+//! worked book, accepted books of every size, the accounts in them, statements of
+//! any lines, and the ways in which either can be wrong, or right but different.
+
+pub mod accounts;
+pub mod chosen;
+pub mod damage;
+pub mod edges;
+pub mod faults;
+pub mod generate;
+pub mod halves;
+pub mod neighbours;
+pub mod random;
+pub mod statements;
+pub mod worked;

@@ -1,0 +1,160 @@
+//! What the package for users adds to the library's calls: lists of accounts and pools,
+//! statements of just their length, lines one by one. The expected values are worked out
+//! by hand; `by_hand.rs` has those of the other book.
+
+use fervolatro::{
+    Mode, Part, Pool, PoolKind, Reason, Refusal, Region, Regions, Service, Source, Statement,
+};
+use fervolatro_testing::requests::generate::book_of_longest_statement;
+use fervolatro_testing::requests::random::Random;
+use fervolatro_testing::requests::worked::{
+    empty_book, energy_row, small_halves_book, unit_row, worked_book, worked_statement,
+};
+
+fn refused<A>(reason: Reason, place: usize) -> Result<A, Refusal> {
+    Err(Refusal { reason, place })
+}
+
+/// The kinds of a book's pools, each with the id that it is of.
+fn kinds(pools: &[Pool]) -> Vec<(u32, PoolKind)> {
+    let pools = pools.iter();
+    pools.map(|pool| (pool.source.id(), pool.kind)).collect()
+}
+
+/// Accounts 7 and 9 have units and energy.
+#[test]
+fn accounts_of_the_worked_book() {
+    let accounts = fervolatro::accounts(&worked_book().encode());
+    assert_eq!(accounts, Ok(vec![7, 9]));
+}
+
+/// Units first, energy first, either alone and both; each once, and rising.
+#[test]
+fn accounts_rise_and_stand_once() {
+    let mut book = worked_book();
+    // Constraint 500's factors stay; only the accounts of its five units change.
+    let named = [u32::MAX, 7, 3, u32::MAX, 8];
+    for (row, account) in book.units.iter_mut().zip(named) {
+        row.account = account;
+    }
+    book.energies.push(energy_row(1 << 24, 0, [0; 4]));
+    let accounts = fervolatro::accounts(&book.encode());
+    assert_eq!(accounts, Ok(vec![3, 7, 8, 9, 1 << 24, u32::MAX]));
+    assert_eq!(fervolatro::accounts(&empty_book().encode()), Ok(vec![]));
+}
+
+/// Constraint 500, service 9, mask 1, mode 1: FPP, used, unused.
+#[test]
+fn pools_of_the_worked_book() {
+    let source = Source::Constraint {
+        id: 500,
+        service: Service::RegulationRaise,
+        regions: Regions::from_iter([Region::Nsw1]),
+        mode: Mode::Factored,
+    };
+    let kinds = [PoolKind::Fpp, PoolKind::Used, PoolKind::Unused];
+    let pools = (0..).zip(kinds).map(|(number, kind)| Pool {
+        number,
+        source,
+        kind,
+    });
+    let listed = fervolatro::pools(&worked_book().encode());
+    assert_eq!(listed, Ok(pools.collect()));
+    assert_eq!(fervolatro::pools(&empty_book().encode()), Ok(vec![]));
+}
+
+/// Constraints 1 and 2 of mode 0, 3 of mode 2, 4 of mode 1; contracts 1 and 2.
+#[test]
+fn pools_of_every_kind() {
+    let book = small_halves_book().encode();
+    let pools = fervolatro::pools(&book).expect("it is accepted");
+    let by_hand = [
+        (1, PoolKind::Contingency),
+        (2, PoolKind::Contingency),
+        (3, PoolKind::Unused),
+        (4, PoolKind::Fpp),
+        (4, PoolKind::Used),
+        (4, PoolKind::Unused),
+        (1, PoolKind::Contract),
+        (2, PoolKind::Contract),
+    ];
+    assert_eq!(kinds(&pools), by_hand);
+    for (number, pool) in (0..).zip(&pools) {
+        assert_eq!(pool.number, number);
+        assert!(fervolatro::balance(&book, number).is_ok(), "{pool:?}");
+    }
+    let past = fervolatro::balance(&book, pools.len() as u64);
+    assert_eq!(past, refused(Reason::PastEnd, 0));
+}
+
+/// The book is checked before anything is listed: a unit row of no constraint is 7, at
+/// 84 + 40 + 5 x 20 = 224.
+#[test]
+fn refused_books_have_no_lists() {
+    let mut book = worked_book();
+    book.units.push(unit_row(501, 1, 7, 0, 0));
+    let book = book.encode();
+    assert_eq!(
+        fervolatro::accounts(&book),
+        refused(Reason::NoConstraint, 224)
+    );
+    assert_eq!(fervolatro::pools(&book), refused(Reason::NoConstraint, 224));
+    let statement = fervolatro::statement(&book, 7);
+    assert_eq!(statement, refused(Reason::NoConstraint, 224));
+    assert_eq!(fervolatro::accounts(b"RCB"), refused(Reason::Short, 0));
+}
+
+/// A header and twelve lines are 24 + 12 x 24 = 312 bytes.
+#[test]
+fn statements_have_just_their_length() {
+    let book = worked_book().encode();
+    let statement = fervolatro::statement(&book, 7).expect("it is settled");
+    assert_eq!((statement.len(), statement.capacity()), (312, 312));
+    assert_eq!(statement, worked_statement().encode());
+    assert_eq!(
+        fervolatro::statement(&book, 8),
+        refused(Reason::NoAccount, 0)
+    );
+}
+
+/// The longest statement has 3 x 600 + 3 x 64 + 10 x 16 = 2,152 lines.
+#[test]
+fn the_longest_statement_is_written_and_read() {
+    let (book, account) = book_of_longest_statement(&mut Random::new(1));
+    let statement = fervolatro::statement(&book.encode(), account).expect("it is settled");
+    assert_eq!(statement.len(), fervolatro::LARGEST_STATEMENT);
+    let read = Statement::read(&statement).expect("it is a statement");
+    assert_eq!(read.lines().len(), fervolatro::MOST_LINES);
+    assert_eq!(fervolatro::rewrite(&statement), Ok(statement));
+}
+
+/// Three units with three lines each, then the residuals: by their parts, from both ends.
+#[test]
+fn lines_are_an_iterator() {
+    let read = Statement::read(&worked_statement().encode()).expect("it is a statement");
+    let units: Vec<Option<u32>> = read.lines().map(|line| line.unit).step_by(3).collect();
+    assert_eq!(units, [Some(1), Some(2), Some(3), None]);
+    let from_the_end: Vec<Part> = read.lines().rev().take(4).map(|line| line.part).collect();
+    let residuals = [Part::ResidualUnused, Part::ResidualUsed, Part::ResidualFpp];
+    assert_eq!(from_the_end[..3], residuals);
+    assert_eq!(from_the_end[3], Part::UnitUnused);
+    let mut taken = 0;
+    for line in &read {
+        assert_eq!((line.id, line.regions.mask()), (500, 1));
+        taken += 1;
+    }
+    assert_eq!(taken, 12);
+    assert_eq!(read.lines().nth(12), None);
+}
+
+#[test]
+fn no_statement_is_refused_with_14() {
+    let mut bytes = worked_statement().encode();
+    bytes[28] = 11; // the first line's part
+    assert_eq!(Statement::read(&bytes), refused(Reason::NoStatement, 0));
+    assert_eq!(fervolatro::rewrite(&bytes), refused(Reason::NoStatement, 0));
+    assert_eq!(
+        fervolatro::rewrite(&vec![0; 60_000]),
+        refused(Reason::NoStatement, 0)
+    );
+}
