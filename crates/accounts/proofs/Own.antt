@@ -5,7 +5,7 @@ use mathlib.Core.Path.{_≡_, refl, sym, _∙_}
 use mathlib.Core.Bool.{Bool, true, false, cond, not, _&&_}
 use native.Mathlib.Omega.{arith}
 use lib.Dec.{eqb}
-use Rattle.records.specs.Inner.Facts.{EntryRule}
+use Rattle.rules.specs.Inner.Facts.{EntryRule}
 use Rattle.records.specs.declared.rows.EnergyRow.{EnergyRow}
 use Rattle.totals.specs.Inner.Totals.{Five, entryOf}
 use Rattle.totals.proofs.Turns.{totals-once}
@@ -33,7 +33,7 @@ module _ {B : Book} (h : Promise B) (account g : ℕ) where
   pub own-within : g < 5 → AtMostEntry (B .entry g) (ownEnergy (rowsOfAccount B account .energies) g .ace) (ownEnergy (rowsOfAccount B account .energies) g .asoe) (ownEnergy (rowsOfAccount B account .energies) g .residual)
   unfolding ownEnergy
   own-within l =
-      let w = h .own account g l in
+      let w = h .sound .own account g l in
       record {
         ace = rw (← own-in B account g (λ r. r .ace)) (w .ace);
         asoe = rw (← own-in B account g (λ r. r .asoe)) (w .asoe);
@@ -44,7 +44,7 @@ module _ {B : Book} (h : Promise B) (account g : ℕ) where
   pub own-rule : g < 5 → EntryRule (ownEnergy (rowsOfAccount B account .energies) g)
   own-rule l =
       let w = own-within l in
-      let e = h .fields .entries g l in
+      let e = h .sound .fields .entries g l in
       record {
         ace = omega (arith, w .ace, e .ace);
         asoe = omega (arith, w .asoe, e .asoe);

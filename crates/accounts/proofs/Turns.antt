@@ -14,7 +14,7 @@ use Rattle.sections.proofs.Search.{some-none, some-here}
 use Rattle.sections.proofs.Total.{keyed-hit, keyed-le}
 use Rattle.sections.proofs.Groups.{split-nothing, split-more, split-rest, split-bound}
 use Rattle.sections.proofs.Walk.{Run, run-start, run-next, run-over, run-any, at-key, before-run, behind-run}
-use Rattle.records.specs.Inner.Facts.{EnergyRule}
+use Rattle.rules.specs.Inner.Facts.{EnergyRule}
 use Rattle.records.specs.declared.rows.UnitRow.{UnitRow}
 use Rattle.records.specs.declared.rows.EnergyRow.{EnergyRow}
 use Rattle.totals.specs.Sums.{regionOf}

@@ -6,7 +6,7 @@ ghost use lib.Dec.{eqb};
 ghost use lib.ListN.{length};
 ghost use Rattle.sections.specs.Inner.Order.{Keeps};
 ghost use Rattle.records.specs.Rows.{energyRow, unitRow};
-ghost use Rattle.records.specs.Inner.Facts.{EnergyRule};
+ghost use Rattle.rules.specs.Inner.Facts.{EnergyRule};
 ghost use Rattle.accounts.specs.Rows.{rowsOf, keep, none};
 ghost use Rattle.accounts.specs.Inner.Held.{Low, OwnAdded, HeldIs};
 use records::find;

@@ -8,9 +8,9 @@ use lib.Dec.{T, eqb}
 use lib.IntN.{pos, negℤ, +ℤ-idl, +ℤ-idr}
 use native.Mathlib.Nat.{mul-zero, zero-mul, zero-add, add-zero}
 use native.Mathlib.Omega.{arith}
-use Rattle.ground.specs.Round.{roundN}
-use Rattle.ground.specs.Sign.{signed, less}
-use Rattle.ground.proofs.Rounding.{round-zero}
+use Rattle.numbers.specs.Round.{roundN}
+use Rattle.numbers.specs.Sign.{signed, less}
+use Rattle.numbers.proofs.Rounding.{round-zero}
 use Rattle.amounts.specs.Shares.{byFactor, byEnergy}
 
 -- nothing charged, and nothing credited

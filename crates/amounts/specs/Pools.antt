@@ -1,8 +1,8 @@
 -- What a constraint or a contract has to recover. 01, The amounts.
 use Prim.Native.Nat.{ℕ, _+_, _-_, _*_, _/_}
-use Rattle.ground.specs.Round.{roundN}
+use Rattle.numbers.specs.Round.{roundN}
 use Rattle.ground.specs.Units.{million}
-use Rattle.records.specs.Rules.{modeOf}
+use Rattle.rules.specs.Rules.{modeOf}
 use Rattle.market.specs.declared.Mode.{Mode}
 use Rattle.market.specs.declared.Mode.the-variants.{Contingency, Factored, Default, Unknown}
 use Rattle.records.specs.declared.rows.Constraint.{Constraint}

@@ -2,8 +2,8 @@
 -- sign, so each side is rounded by its size (the crate guide has the laws over signed numbers).
 use Prim.Native.Nat.{ℕ, _*_}
 use lib.IntN.{ℤ}
-use Rattle.ground.specs.Round.{roundN}
-use Rattle.ground.specs.Sign.{less}
+use Rattle.numbers.specs.Round.{roundN}
+use Rattle.numbers.specs.Sign.{less}
 use Rattle.ground.specs.Units.{million}
 
 -- "round(pool x factor / 1,000,000)", where the factor is above - below, of which one is 0

@@ -1,14 +1,14 @@
 // What a constraint or a contract has to recover, before it is shared.
 ghost use mathlib.Core.Path.{_≡_};
 ghost use Prim.Native.Nat.{_*_, _≤_};
-ghost use Rattle.ground.specs.Round.{roundN};
+ghost use Rattle.numbers.specs.Round.{roundN};
 ghost use Rattle.ground.specs.Units.{million, moneyLimit};
-ghost use Rattle.records.specs.Inner.Facts.{ConstraintRule};
+ghost use Rattle.rules.specs.Inner.Facts.{ConstraintRule};
 ghost use Rattle.amounts.specs.Pools.{poolsOf, residualPools, halvesOf};
 ghost use Rattle.amounts.specs.Inner.Bounds.{SmallPools};
 use crate::shares;
-use ground::round;
 use market::Mode;
+use numbers::round;
 use records::rows::Constraint;
 
 // The three pools of a regulation constraint.

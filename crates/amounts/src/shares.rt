@@ -2,12 +2,12 @@
 // signed amount is made once, here.
 ghost use mathlib.Core.Path.{_≡_};
 ghost use Prim.Native.Nat.{_*_, _≤_, _<_};
-ghost use Rattle.ground.specs.Round.{roundN};
-ghost use Rattle.ground.specs.Sign.{less};
+ghost use Rattle.numbers.specs.Round.{roundN};
+ghost use Rattle.numbers.specs.Sign.{less};
 ghost use Rattle.ground.specs.Units.{million, moneyLimit, totalLimit};
 ghost use Rattle.amounts.specs.Shares.{byFactor, byEnergy};
-use ground::round;
-use ground::sign;
+use numbers::round;
+use numbers::sign;
 
 // pool x own / total, to the nearest. The product fits, since pools and totals are small.
 pub fn share(pool: u64, own: u64, total: u64) -> u64

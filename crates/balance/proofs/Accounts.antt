@@ -5,8 +5,8 @@ use mathlib.Core.Path.{_≡_, ap, _∙_}
 use mathlib.Core.Bool.{Bool, cond, not}
 use Rattle.book.specs.Book.{Book}
 use Rattle.accounts.specs.Account.{rowsOfAccount, unknown}
-use Rattle.parties.specs.Once.{has, times}
-use Rattle.parties.proofs.Everyone.{stands-once, let-pass}
+use Rattle.sharing.specs.Once.{has, times}
+use Rattle.sharing.proofs.Everyone.{stands-once, let-pass}
 use Rattle.balance.specs.Balance.{accountsOf}
 
 module _ (B : Book) (a : ℕ) where

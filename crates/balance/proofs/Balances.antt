@@ -8,11 +8,11 @@ use borrow.Author.Tests.{eqb-false}
 use lib.Dec.{eqb}
 use lib.IntN.{ℤ, pos}
 use lib.ListN.{length}
-use Rattle.ground.specs.Sign.{less}
-use Rattle.ground.proofs.Sizes.{less-plus}
+use Rattle.numbers.specs.Sign.{less}
+use Rattle.numbers.proofs.Sizes.{less-plus}
 use Rattle.sections.specs.Total.{total, keyed}
 use Rattle.sections.proofs.Total.{total-same}
-use Rattle.records.specs.Rules.{factorOf}
+use Rattle.rules.specs.Rules.{factorOf}
 use Rattle.records.specs.declared.rows.UnitRow.{UnitRow}
 use Rattle.factors.specs.Naming.{keyOf}
 use Rattle.factors.specs.Factors.{sumOver}
@@ -20,10 +20,10 @@ use Rattle.book.specs.Book.{Book}
 use Rattle.book.specs.Inner.Accepted.{Promise}
 use Rattle.accounts.specs.Rows.{sumOf}
 use Rattle.accounts.specs.Account.{publicOf, rowsOfAccount}
-use Rattle.parties.specs.Inner.Shares.{shareIn, partSum, Shareable}
-use Rattle.parties.specs.declared.shares.Part.{Part}
-use Rattle.parties.proofs.Sums.{sum-same, sum-plus, sum-none}
-use Rattle.parties.proofs.Everyone.{each-once-unit, part-everyone}
+use Rattle.sharing.specs.Inner.Shares.{shareIn, partSum, Shareable}
+use Rattle.sharing.specs.declared.shares.Part.{Part}
+use Rattle.sharing.proofs.Sums.{sum-same, sum-plus, sum-none}
+use Rattle.sharing.proofs.Everyone.{each-once-unit, part-everyone}
 use Rattle.settlement.specs.Settle.{linesOf}
 use Rattle.balance.specs.Pools.{Pool, recovers, constraintPool, benefiting, contractPool, inPool}
 use Rattle.balance.specs.Balance.{sumZ, accountsOf, poolLines, lineCount, lineSum, balanceIn}

@@ -7,12 +7,12 @@ use mathlib.Core.Logic.{_⊎_, ⊎-elim}
 use native.Mathlib.Omega.{arith}
 use native.Mathlib.Nat.{le-refl, mul-zero}
 use lib.IntN.{pos, negℤ, natAbs, _+ℤ_, +ℤ-assoc}
-use Rattle.ground.specs.Round.{roundN}
-use Rattle.ground.specs.Sign.{less}
-use Rattle.ground.proofs.Sizes.{less-size}
-use Rattle.ground.proofs.Rounding.{half-above, half-below, round-zero}
+use Rattle.numbers.specs.Round.{roundN}
+use Rattle.numbers.specs.Sign.{less}
+use Rattle.numbers.proofs.Sizes.{less-size}
+use Rattle.numbers.proofs.Rounding.{half-above, half-below, round-zero}
 use Rattle.sections.specs.Total.{total}
-use Rattle.parties.specs.Inner.Within.{HalvesApart}
+use Rattle.sharing.specs.Inner.Within.{HalvesApart}
 
 -- ---- distances
 

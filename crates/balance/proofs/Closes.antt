@@ -11,15 +11,15 @@ use borrow.Author.Tests.{eqb-true, eqb-false}
 use lib.Dec.{eqb, ltb}
 use lib.IntN.{pos, natAbs, _+ℤ_}
 use lib.ListN.{length}
-use Rattle.ground.specs.Round.{roundN}
-use Rattle.ground.specs.Sign.{less}
-use Rattle.ground.specs.Sizes.{sizeBelow, aboveOf, belowOf}
-use Rattle.ground.proofs.Rounding.{round-zero}
+use Rattle.numbers.specs.Round.{roundN}
+use Rattle.numbers.specs.Sign.{less}
+use Rattle.numbers.specs.Sizes.{sizeBelow, aboveOf, belowOf}
+use Rattle.numbers.proofs.Rounding.{round-zero}
 use Rattle.sections.specs.Total.{total, keyed}
 use Rattle.sections.specs.declared.Verdict.the-variants.{Accepted}
 use Rattle.sections.proofs.Total.{total-zero}
 use Rattle.records.specs.Rows.{constraintRow, unitRow}
-use Rattle.records.specs.Rules.{factorOf}
+use Rattle.rules.specs.Rules.{factorOf}
 use Rattle.records.specs.declared.rows.Constraint.{Constraint}
 use Rattle.records.specs.declared.rows.UnitRow.{UnitRow}
 use Rattle.factors.specs.Naming.{keyOf}
@@ -31,11 +31,11 @@ use Rattle.book.proofs.Promise.{accepted}
 use Rattle.amounts.specs.Pools.{poolsOf, residualPools, halvesOf}
 use Rattle.amounts.specs.declared.pools.Pools.{Pools}
 use Rattle.accounts.specs.Account.{publicOf}
-use Rattle.parties.specs.Inner.Within.{HalvesApart}
-use Rattle.parties.specs.Inner.Shares.{shareIn, partSum, Shareable}
-use Rattle.parties.specs.declared.shares.Part.{Part}
-use Rattle.parties.proofs.Sums.{sum-same, sum-none}
-use Rattle.parties.proofs.Closing.{part-closing}
+use Rattle.sharing.specs.Inner.Within.{HalvesApart}
+use Rattle.sharing.specs.Inner.Shares.{shareIn, partSum, Shareable}
+use Rattle.sharing.specs.declared.shares.Part.{Part}
+use Rattle.sharing.proofs.Sums.{sum-same, sum-none}
+use Rattle.sharing.proofs.Closing.{part-closing}
 use Rattle.balance.specs.Pools.{Pool, recovers, stagesOf, constraintPool, constraintPools, benefiting, contractPool, poolsIn, found, poolAt}
 use Rattle.balance.specs.Balance.{accountsOf, lineCount, lineSum, balanceIn}
 use Rattle.balance.specs.Inner.Shapes.{belongs, aboveBy, belowBy, poolBy, creditBy, chargeBy, unitRows, unitCredit, unitCharge, partOf, consumedPart, sentPart, regionPaid, contingencyShape, regulationShape, contractShape}
@@ -170,21 +170,21 @@ module _ {B : Book} (p : Promise B) where
     default-whole = by (eqb (B .constraint j .mode) 1) refl
       where
         by : (t : Bool) → eqb (B .constraint j .mode) 1 ≡ t → sumOver (B .unit) (B .header .units) (B .constraint j .id) (λ q. q .dcf) + B .constraint j .drcf ≡ 1_000_000
-        by true e = p .factored j l (eqb-true (B .constraint j .mode) 1 e) .dcf
+        by true e = p .sound .factored j l (eqb-true (B .constraint j .mode) 1 e) .dcf
         by false e =
             let d = eqb-false (B .constraint j .mode) 1 e in
-            let m = p .fields .constraints j l .mode in
-            p .default j l (omega arith) .dcf
+            let m = p .sound .fields .constraints j l .mode in
+            p .sound .default j l (omega arith) .dcf
 
     -- the factors of a kind make the amount to recover
     factors-whole : (kind : Kind) → belongs (B .constraint j) kind ≡ true → poolBy kind (poolsOf (B .constraint j)) * (sumOver (B .unit) (B .header .units) (B .constraint j .id) (belowBy kind) + restMinus kind (B .constraint j)) ≡ poolBy kind (poolsOf (B .constraint j)) * (sumOver (B .unit) (B .header .units) (B .constraint j .id) (aboveBy kind) + restPlus kind (B .constraint j)) + 1_000_000 * recovers (B .constraint j) kind
     unfolding belongs poolBy aboveBy belowBy restPlus restMinus recovers
     factors-whole Contingency h = absurd (live (eqb-true (B .constraint j .mode) 0 h))
     factors-whole Fpp h =
-        let w = p .factored j l (eqb-true (B .constraint j .mode) 1 h) in
+        let w = p .sound .factored j l (eqb-true (B .constraint j .mode) 1 h) in
         rw (w .ncf, w .pcf) (omega arith)
     factors-whole Used h =
-        let w = p .factored j l (eqb-true (B .constraint j .mode) 1 h) in
+        let w = p .sound .factored j l (eqb-true (B .constraint j .mode) 1 h) in
         rw (w .ncf, no-factor (B .constraint j .id)) (omega arith)
     factors-whole Unused h = rw (default-whole, no-factor (B .constraint j .id)) (omega arith)
     factors-whole Payment h = omega arith
@@ -237,7 +237,7 @@ module _ {B : Book} (p : Promise B) where
     unfolding contractShape benefiting
     contract-within =
         let count = count-times (λ g. eqb (factorOf (B .contract i .factors) g) 0) (2 * length (accountsOf B)) 5 in
-        let first = close-within (B .contract i .payment) (B .contract i .payment) regions-close (rw (p .fields .contracts i l .whole) (omega arith)) in
+        let first = close-within (B .contract i .payment) (B .contract i .payment) regions-close (rw (p .sound .fields .contracts i l .whole) (omega arith)) in
         let then = within-total _ _ _ 5 region-within in
         record { up = omega arith; down = omega arith }
 

@@ -41,7 +41,7 @@ module _ (b : List ℕ) (number : ℕ) {v : Verdict} (q : v ≡ verdict b) where
     given = accepted b (sym q ∙ e)
 
     pub laid-in : {h : Header} → h ≡ headerOf b → Laid b h
-    laid-in i = rw i (record { few = given .promise .few; long = given .long })
+    laid-in i = rw i (record { few = given .promise .sound .few; long = given .long })
 
     pub promised-in : {h : Header} → h ≡ headerOf b → Promise (bookIn b h)
     promised-in i = rw i (given .promise)

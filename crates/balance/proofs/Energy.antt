@@ -16,10 +16,10 @@ use Rattle.records.specs.declared.rows.Constraint.{Constraint}
 use Rattle.records.specs.declared.rows.EnergyRow.{EnergyRow}
 use Rattle.totals.specs.Sums.{regionOf}
 use Rattle.totals.specs.Divisors.{basisOf, countedIn, overRegions}
-use Rattle.parties.specs.Inner.Shares.{byBasis, energyIn}
-use Rattle.parties.specs.declared.shares.Basis.{Basis}
-use Rattle.parties.specs.declared.shares.Basis.the-variants.{Ace, Asoe, Residual}
-use Rattle.parties.specs.declared.shares.Part.{Part}
+use Rattle.sharing.specs.Inner.Shares.{byBasis, energyIn}
+use Rattle.sharing.specs.declared.shares.Basis.{Basis}
+use Rattle.sharing.specs.declared.shares.Basis.the-variants.{Ace, Asoe, Residual}
+use Rattle.sharing.specs.declared.shares.Part.{Part}
 use Rattle.balance.specs.Inner.Shapes.{constraintBasis, partOf}
 
 -- ---- sums

@@ -8,8 +8,8 @@ use native.Mathlib.Omega.{arith}
 use native.Mathlib.Nat.{le-refl, le-of-suc-le-suc, not-suc-le-zero, eq-or-lt-of-le, add-zero, zero-add}
 use lib.IntN.{ℤ, _+ℤ_, +ℤ-idl, +ℤ-idr, +ℤ-assoc}
 use lib.ListN.{length, length-append}
-use Rattle.ground.specs.Sign.{less}
-use Rattle.ground.proofs.Sizes.{less-plus}
+use Rattle.numbers.specs.Sign.{less}
+use Rattle.numbers.proofs.Sizes.{less-plus}
 use Rattle.sections.specs.Total.{total}
 use Rattle.accounts.specs.Rows.{keep, joined}
 use Rattle.accounts.proofs.Lists.{keep-append}

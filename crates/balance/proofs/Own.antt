@@ -17,10 +17,10 @@ use Rattle.book.specs.Inner.Accepted.{Promise}
 use Rattle.accounts.specs.Rows.{rowsOf, sumOf}
 use Rattle.accounts.specs.Account.{rowsOfAccount, ownEnergy}
 use Rattle.accounts.proofs.Lists.{total-rows}
-use Rattle.parties.specs.Inner.Shares.{byBasis, ownInPart}
-use Rattle.parties.specs.declared.shares.Basis.{Basis}
-use Rattle.parties.specs.declared.shares.Basis.the-variants.{Ace, Asoe, Residual}
-use Rattle.parties.specs.declared.shares.Part.{Part}
+use Rattle.sharing.specs.Inner.Shares.{byBasis, ownInPart}
+use Rattle.sharing.specs.declared.shares.Basis.{Basis}
+use Rattle.sharing.specs.declared.shares.Basis.the-variants.{Ace, Asoe, Residual}
+use Rattle.sharing.specs.declared.shares.Part.{Part}
 use Rattle.balance.specs.Inner.Shapes.{partOf}
 use Rattle.balance.proofs.Energy.{choices, entryBy, Counted, constraint-energy, region-energy}
 
@@ -64,7 +64,7 @@ module _ (B : Book) (a : ℕ) where
 
   own-counted : Promise B → Counted (B .energy) (B .header .energies) (λ i. eqb (B .energy i .account) a) (entryOf (ownOf B a))
   unfolding ownOf ownBy entryBy
-  own-counted p = record { low = λ i l. p .fields .energies i l .region; sums = by }
+  own-counted p = record { low = λ i l. p .sound .fields .energies i l .region; sums = by }
     where
       by : (b : Basis) (g : ℕ) → g < 5 → entryBy b (entryOf (ownOf B a) g) ≡ ownBy B a b g
       by Ace g l = five _ g l

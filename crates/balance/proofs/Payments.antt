@@ -11,13 +11,13 @@ use lib.Dec.{eqb}
 use lib.ListN.{getD, set, replicate, length-set, length-replicate}
 use lib.Seq.{getD-set-same, getD-set-other}
 use Rattle.ground.specs.Bytes.{partFrom}
-use Rattle.ground.specs.Round.{roundN}
-use Rattle.ground.proofs.Rounding.{round-share}
+use Rattle.numbers.specs.Round.{roundN}
+use Rattle.numbers.proofs.Rounding.{round-share}
 use Rattle.sections.specs.Total.{total, keyed, totalOf}
 use Rattle.sections.proofs.Total.{total-more, total-bound, total-zero, total-same, total-swap, keyed-hit, keyed-miss, keyed-plus, total-five, total-has, total-only}
 use Rattle.records.specs.Rows.{energyRow}
 use Rattle.market.specs.Kinds.{bitSet}
-use Rattle.records.specs.Rules.{factorOf}
+use Rattle.rules.specs.Rules.{factorOf}
 use Rattle.records.specs.declared.rows.Entry.{Entry}
 use Rattle.records.specs.declared.rows.Contract.{Contract}
 use Rattle.records.specs.declared.rows.EnergyRow.{EnergyRow}
@@ -28,9 +28,9 @@ use Rattle.book.specs.Inner.Accepted.{Promise}
 use Rattle.book.specs.declared.header.Header.{Header}
 use Rattle.amounts.specs.Pools.{halvesOf}
 use Rattle.amounts.specs.declared.pools.Halves.{Halves}
-use Rattle.parties.specs.Inner.Shares.{byBasis, partSum, Shareable}
-use Rattle.parties.specs.declared.shares.Part.{Part}
-use Rattle.parties.proofs.Rows.{part-rows}
+use Rattle.sharing.specs.Inner.Shares.{byBasis, partSum, Shareable}
+use Rattle.sharing.specs.declared.shares.Part.{Part}
+use Rattle.sharing.proofs.Rows.{part-rows}
 use Rattle.balance.specs.Pools.{benefiting}
 use Rattle.balance.specs.Inner.Shapes.{consumedPart, sentPart, regionPaid}
 use Rattle.balance.specs.Inner.Rests.{OfContract, PaidIs, Listed, ListsAre, twoShares, rowPays, Fair, Payable, AllPayable}
@@ -106,10 +106,10 @@ module _ {factors c s a o : List ℕ} {energy : ℕ → EnergyRow} {n : ℕ} (h 
 
 module _ {B : Book} (p : Promise B) (k : Contract) (o : OfContract B k) where
   pub halves-fit : (g : ℕ) → g < 5 → (k .payment ≤ 50_000_000_000) × (factorOf (k .factors) g ≤ 1_000_000)
-  halves-fit g m = rw (o .same) ((p .fields .contracts (o .place) (o .within) .payment, p .fields .contracts (o .place) (o .within) .factor g m))
+  halves-fit g m = rw (o .same) ((p .sound .fields .contracts (o .place) (o .within) .payment, p .sound .fields .contracts (o .place) (o .within) .factor g m))
 
   low : (i : ℕ) → i < B .header .energies → B .energy i .region < 5
-  low i l = omega (arith, p .fields .energies i l .region)
+  low i l = omega (arith, p .sound .fields .energies i l .region)
 
   -- a row's shares of region g's halves, and what it pays of them
   abbrev sharesIn : ℕ → EnergyRow → ℕ
@@ -179,12 +179,12 @@ module _ {B : Book} (p : Promise B) (k : Contract) (o : OfContract B k) where
         let g = B .energy i .region in
         record {
           region = h;
-          ace = λ d. fair (consumed-fits g h d) (l .consumed .each g h) (l .ace .each g h) (within (aceOf (B .energy)) i m (p .entry g h .ace));
-          asoe = λ d. fair (sent-fits g h d) (l .sent .each g h) (l .asoe .each g h) (within (asoeOf (B .energy)) i m (p .entry g h .asoe));
+          ace = λ d. fair (consumed-fits g h d) (l .consumed .each g h) (l .ace .each g h) (within (aceOf (B .energy)) i m (p .sound .entry g h .ace));
+          asoe = λ d. fair (sent-fits g h d) (l .sent .each g h) (l .asoe .each g h) (within (asoeOf (B .energy)) i m (p .sound .entry g h .asoe));
         }
 
     pub all-payable : AllPayable (k .factors) c s a t (B .energy) (B .header .energies)
-    all-payable = record { few = p .few .energies; row = row-payable }
+    all-payable = record { few = p .sound .few .energies; row = row-payable }
 
 -- ---- where the energy rows stand; e is where they start
 

@@ -8,12 +8,12 @@ use native.Mathlib.Omega.{arith}
 use native.Mathlib.Nat.{zero-mul}
 use borrow.Author.Tests.{eqb-true, eq-eqb, ne-eqb}
 use lib.Dec.{eqb}
-use Rattle.ground.specs.Round.{roundN}
-use Rattle.ground.specs.Sign.{less}
-use Rattle.ground.proofs.Rounding.{round-zero}
+use Rattle.numbers.specs.Round.{roundN}
+use Rattle.numbers.specs.Sign.{less}
+use Rattle.numbers.proofs.Rounding.{round-zero}
 use Rattle.sections.specs.Total.{total, keyed}
 use Rattle.market.specs.Kinds.{raises}
-use Rattle.records.specs.Rules.{factorOf}
+use Rattle.rules.specs.Rules.{factorOf}
 use Rattle.records.specs.declared.rows.Entry.{Entry}
 use Rattle.records.specs.declared.rows.Constraint.{Constraint}
 use Rattle.records.specs.declared.rows.UnitRow.{UnitRow}
@@ -28,7 +28,7 @@ use Rattle.amounts.specs.Shares.{byFactor, byEnergy}
 use Rattle.amounts.specs.declared.pools.Pools.{Pools}
 use Rattle.amounts.specs.declared.pools.Residual.{Residual}
 use Rattle.accounts.specs.Account.{publicOf, rowsOfAccount}
-use Rattle.parties.specs.Inner.Shares.{shareIn}
+use Rattle.sharing.specs.Inner.Shares.{shareIn}
 use Rattle.statement.specs.declared.Line.{Line}
 use Rattle.lines.specs.Lines.{contingencyLine, unitLines, restLines, regionLines}
 use Rattle.settlement.specs.Settle.{linesOf}
@@ -194,7 +194,7 @@ module _ {B : Book} (p : Promise B) (a : ℕ) where
       (kept-before
       (kept-only _ j (B .header .constraints) l
       (λ u m q. no-constraint _ (B .unit) (B .header .units) a (B .constraint u) _ _
-      (λ x e _. other-id _ x (λ z. q (rises-once (idOf (B .constraint)) (B .header .constraints) (p .ordered .constraints) u j m l (sym e ∙ z)))))
+      (λ x e _. other-id _ x (λ z. q (rises-once (idOf (B .constraint)) (B .header .constraints) (p .sound .ordered .constraints) u j m l (sym e ∙ z)))))
       h)
       (kept-nothing _ (B .header .contracts)
       (λ i m. no-contract _ (B .entry) (entryOf (ownOf B a)) (B .contract) i (λ x _ g. other-part _ x (priced-part kind (x .part) k g)))))
@@ -209,7 +209,7 @@ module _ {B : Book} (p : Promise B) (a : ℕ) where
       (λ u m. no-constraint _ (B .unit) (B .header .units) a (B .constraint u) _ _ (λ x _ g. other-part _ x (paid-part (x .part) g))))
       (kept-only _ i (B .header .contracts) l
       (λ u m q. no-contract _ (B .entry) (entryOf (ownOf B a)) (B .contract) u
-      (λ x e _. other-id _ x (λ z. q (rises-once (λ k. B .contract k .id) (B .header .contracts) (p .ordered .contracts) u i m l (sym e ∙ z)))))
+      (λ x e _. other-id _ x (λ z. q (rises-once (λ k. B .contract k .id) (B .header .contracts) (p .sound .ordered .contracts) u i m l (sym e ∙ z)))))
       h))
 
   -- ---- shares

@@ -5,9 +5,9 @@ use mathlib.Core.Path.{_≡_}
 use mathlib.Core.Bool.{Bool, true, false, cond}
 use native.Mathlib.Omega.{arith}
 use lib.Dec.{eqb}
-use Rattle.ground.proofs.Rounding.{round-share}
+use Rattle.numbers.proofs.Rounding.{round-share}
 use Rattle.market.specs.Kinds.{modeWith}
-use Rattle.records.specs.Inner.Facts.{ConstraintRule}
+use Rattle.rules.specs.Inner.Facts.{ConstraintRule}
 use Rattle.market.specs.declared.Mode.the-variants as mode
 use Rattle.records.specs.declared.rows.Constraint.{Constraint}
 use Rattle.amounts.specs.Pools.{poolsByMode}

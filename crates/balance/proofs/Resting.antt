@@ -7,9 +7,9 @@ use native.Mathlib.Omega.{arith}
 use lib.IntN.{ℤ, pos}
 use lib.ListN.{length}
 use Rattle.ground.specs.Bytes.{partFrom}
-use Rattle.ground.specs.Sign.{less}
+use Rattle.numbers.specs.Sign.{less}
 use Rattle.records.specs.Rows.{unitRow, energyRow}
-use Rattle.records.specs.Inner.Facts.{ConstraintRule}
+use Rattle.rules.specs.Inner.Facts.{ConstraintRule}
 use Rattle.market.specs.Kinds.{raises, regulates}
 use Rattle.records.specs.declared.rows.Constraint.{Constraint}
 use Rattle.records.specs.declared.rows.Contract.{Contract}
@@ -22,11 +22,11 @@ use Rattle.amounts.specs.Inner.Bounds.{SmallPools}
 use Rattle.amounts.specs.Pools.{poolsOf}
 use Rattle.amounts.specs.declared.pools.Pools.{Pools}
 use Rattle.amounts.proofs.Sizes.{pools-small, residual-small}
-use Rattle.parties.specs.Parties.{accountsIn}
-use Rattle.parties.specs.Inner.Shares.{partSum, Sorted, Shareable}
-use Rattle.parties.specs.declared.shares.Basis.{Basis}
-use Rattle.parties.specs.declared.shares.Basis.the-variants as basis
-use Rattle.parties.specs.declared.shares.Part.{Part}
+use Rattle.sharing.specs.Accounts.{accountsIn}
+use Rattle.sharing.specs.Inner.Shares.{partSum, Sorted, Shareable}
+use Rattle.sharing.specs.declared.shares.Basis.{Basis}
+use Rattle.sharing.specs.declared.shares.Basis.the-variants as basis
+use Rattle.sharing.specs.declared.shares.Part.{Part}
 use Rattle.balance.specs.Pools.{recovers}
 use Rattle.balance.specs.Inner.Shapes.{poolBy, recoveryOf, constraintBasis, partOf, contingencyShape, regulationShape, contractShape}
 use Rattle.balance.specs.Inner.Units.{SumsAre}
@@ -72,7 +72,7 @@ module _ (r : Constraint) where
 
 module _ {B : Book} (p : Promise B) (r : Constraint) (o : OfConstraint B r) where
   pub constraint-rule : ConstraintRule r
-  constraint-rule = rw (o .same) (p .fields .constraints (o .place) (o .within))
+  constraint-rule = rw (o .same) (p .sound .fields .constraints (o .place) (o .within))
 
   module _ (amount whole : ℕ) (basis : Basis) (w : whole ≡ overRegions (B .entry) r) (e : basis ≡ constraintBasis r) where
     part-is : record { amount = amount; whole = whole; mask = r .mask; basis = basis } ≡ partOf (B .entry) r amount
@@ -129,7 +129,7 @@ module _ (B : Book) (count : ℕ) (n : Counted B count) where
     regulation-is kind x e u y z a s = rw (a, s, n .all, u .rows, u .credit, u .charge, y .sum, z .sum, e)
 
   pub contract-payment : Promise B → (k : Contract) → OfContract B k → k .payment ≤ 50_000_000_000
-  contract-payment p k o = rw (o .same) (p .fields .contracts (o .place) (o .within) .payment)
+  contract-payment p k o = rw (o .same) (p .sound .fields .contracts (o .place) (o .within) .payment)
 
   pub contract-is : (k : Contract) {x : Paid} → PaidIs B k x → {a s : ℤ} → a ≡ pos (k .payment) → s ≡ less 0 (x .charge) → record { amount = a; lines = x .regions * (2 * count); sum = s } ≡ contractShape B k
   unfolding contractShape

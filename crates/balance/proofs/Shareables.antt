@@ -5,7 +5,7 @@ use mathlib.Core.Bool.{true, cond}
 use native.Mathlib.Omega.{arith}
 use Rattle.sections.specs.Total.{totalOf}
 use Rattle.sections.proofs.Total.{total-bound}
-use Rattle.records.specs.Rules.{factorOf}
+use Rattle.rules.specs.Rules.{factorOf}
 use Rattle.totals.specs.Sums.{regionOf}
 use Rattle.totals.specs.Divisors.{countedIn}
 use Rattle.totals.proofs.Turns.{share-small}
@@ -15,9 +15,9 @@ use Rattle.amounts.specs.Inner.Bounds.{SmallResidual, SmallHalves}
 use Rattle.amounts.specs.Pools.{poolsOf, residualPools, halvesOf}
 use Rattle.amounts.specs.declared.pools.Residual.{Residual}
 use Rattle.amounts.proofs.Sizes.{pools-small, residual-small, halves-small}
-use Rattle.parties.specs.Inner.Shares.{byBasis, Sorted, Shareable}
-use Rattle.parties.specs.declared.shares.Basis.{Basis}
-use Rattle.parties.specs.declared.shares.Basis.the-variants as basis
+use Rattle.sharing.specs.Inner.Shares.{byBasis, Sorted, Shareable}
+use Rattle.sharing.specs.declared.shares.Basis.{Basis}
+use Rattle.sharing.specs.declared.shares.Basis.the-variants as basis
 use Rattle.balance.specs.Inner.Shapes.{creditBy, chargeBy, partOf, consumedPart, sentPart}
 use Rattle.balance.specs.declared.kinds.Kind.{Kind}
 use Rattle.balance.specs.declared.kinds.Kind.the-variants.{Contingency, Fpp, Used, Unused, Payment}
@@ -46,17 +46,17 @@ charge-low x Payment s = omega arith
 module _ {B : Book} (p : Promise B) where
   -- the energy rows are in order
   pub sorted : Sorted (B .energy) (B .header .energies)
-  sorted = record { few = p .few .energies; rules = p .fields .energies; order = p .ordered .energies }
+  sorted = record { few = p .sound .few .energies; rules = p .sound .fields .energies; order = p .sound .ordered .energies }
 
   -- each entry has the sums over all rows of its region
   entry-counted : Counted (B .energy) (B .header .energies) (λ i. true) (B .entry)
   unfolding entryBy byBasis
-  entry-counted = record { low = λ i l. p .fields .energies i l .region; sums = by }
+  entry-counted = record { low = λ i l. p .sound .fields .energies i l .region; sums = by }
     where
       by : (b : Basis) (g : ℕ) → g < 5 → entryBy b (B .entry g) ≡ totalOf (regionOf (B .energy)) g (λ i. cond true (byBasis b (B .energy i)) 0) (B .header .energies)
-      by basis.Ace g l = p .entry g l .ace
-      by basis.Asoe g l = p .entry g l .asoe
-      by basis.Residual g l = p .entry g l .residual
+      by basis.Ace g l = p .sound .entry g l .ace
+      by basis.Asoe g l = p .sound .entry g l .asoe
+      by basis.Residual g l = p .sound .entry g l .residual
 
   -- an amount over a constraint's regions
   pub constraint-shareable : (j : ℕ) → j < B .header .constraints → (amount : ℕ) → amount ≤ 50_000_000_000 → Shareable (partOf (B .entry) (B .constraint j) amount) (B .energy) (B .header .energies)
@@ -65,17 +65,17 @@ module _ {B : Book} (p : Promise B) where
       record {
         whole = constraint-energy entry-counted (B .entry) (B .constraint j) amount;
         above = p .divisor j l;
-        below = omega (arith, total-bound (λ g. countedIn (B .constraint j) (B .entry g) g) 20_000_000 5 (λ g b. share-small (B .constraint j) (B .entry g) g (p .fields .entries g b)));
+        below = omega (arith, total-bound (λ g. countedIn (B .constraint j) (B .entry g) g) 20_000_000 5 (λ g b. share-small (B .constraint j) (B .entry g) g (p .sound .fields .entries g b)));
         small = small;
       }
 
   module _ (j : ℕ) (l : j < B .header .constraints) where
     -- its cost
     pub cost-shareable : Shareable (partOf (B .entry) (B .constraint j) (B .constraint j .cost)) (B .energy) (B .header .energies)
-    cost-shareable = constraint-shareable j l _ (p .fields .constraints j l .cost)
+    cost-shareable = constraint-shareable j l _ (p .sound .fields .constraints j l .cost)
 
     residual-low : SmallResidual (residualPools (B .constraint j) (poolsOf (B .constraint j)))
-    residual-low = let h = p .fields .constraints j l in residual-small (B .constraint j) _ h (pools-small (B .constraint j) h)
+    residual-low = let h = p .sound .fields .constraints j l in residual-small (B .constraint j) _ h (pools-small (B .constraint j) h)
 
     -- either side of its residual pool
     pub credit-shareable : (kind : Kind) → Shareable (partOf (B .entry) (B .constraint j) (creditBy kind (residualPools (B .constraint j) (poolsOf (B .constraint j))))) (B .energy) (B .header .energies)
@@ -86,7 +86,7 @@ module _ {B : Book} (p : Promise B) where
 
   module _ (i g : ℕ) (l : i < B .header .contracts) (m : g < 5) (d : factorOf (B .contract i .factors) g ≡ 0 → ⊥) where
     contract-halves : SmallHalves (halvesOf (B .contract i .payment) (factorOf (B .contract i .factors) g))
-    contract-halves = halves-small _ _ (p .fields .contracts i l .payment) (p .fields .contracts i l .factor g m)
+    contract-halves = halves-small _ _ (p .sound .fields .contracts i l .payment) (p .sound .fields .contracts i l .factor g m)
 
     -- the two halves of a contract's payment in a region that benefits
     pub consumed-shareable : Shareable (consumedPart (B .entry) (B .contract i) g) (B .energy) (B .header .energies)
@@ -95,7 +95,7 @@ module _ {B : Book} (p : Promise B) where
         record {
           whole = region-energy entry-counted (consumedPart (B .entry) (B .contract i) g) g m refl;
           above = p .funded i l g m d .ace;
-          below = omega (arith, p .fields .entries g m .ace);
+          below = omega (arith, p .sound .fields .entries g m .ace);
           small = contract-halves .consumed;
         }
 
@@ -105,6 +105,6 @@ module _ {B : Book} (p : Promise B) where
         record {
           whole = region-energy entry-counted (sentPart (B .entry) (B .contract i) g) g m refl;
           above = p .funded i l g m d .asoe;
-          below = omega (arith, p .fields .entries g m .asoe);
+          below = omega (arith, p .sound .fields .entries g m .asoe);
           small = contract-halves .sent;
         }

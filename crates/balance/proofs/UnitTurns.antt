@@ -3,11 +3,11 @@ use Prim.Native.Nat.{ℕ, _+_, _*_, _≤_, _<_}
 use mathlib.Core.Path.{_≡_, refl, ap}
 use mathlib.Core.Bool.{Bool, true, false}
 use native.Mathlib.Omega.{arith}
-use Rattle.ground.specs.Round.{roundN}
-use Rattle.ground.proofs.Rounding.{round-share}
+use Rattle.numbers.specs.Round.{roundN}
+use Rattle.numbers.proofs.Rounding.{round-share}
 use Rattle.sections.specs.Inner.Walk.{Stands, atKey}
 use Rattle.sections.proofs.Walk.{Run, run-start, run-next, run-over, at-key, sum-start, sum-more, sum-past}
-use Rattle.records.specs.Inner.Facts.{UnitRule}
+use Rattle.rules.specs.Inner.Facts.{UnitRule}
 use Rattle.records.specs.declared.rows.UnitRow.{UnitRow}
 use Rattle.factors.specs.Naming.{keyOf}
 use Rattle.factors.specs.Inner.Runs.{Walked}

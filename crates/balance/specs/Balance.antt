@@ -10,7 +10,7 @@ use Rattle.book.specs.Book.{Book, bookOf}
 use Rattle.book.specs.Table.{verdict}
 use Rattle.accounts.specs.Rows.{keep, sumOf}
 use Rattle.accounts.specs.Account.{publicOf, rowsOfAccount}
-use Rattle.parties.specs.Parties.{accountsIn}
+use Rattle.sharing.specs.Accounts.{accountsIn}
 use Rattle.statement.specs.declared.Line.{Line}
 use Rattle.settlement.specs.Settle.{linesOf}
 use Rattle.balance.specs.Pools.{Pool, Found, past, found, poolsIn, poolAt, inPool}

@@ -1,6 +1,6 @@
 // Which of a record's lines a pool has, and what such a pool rests on.
 ghost use mathlib.Core.Path.{_≡_};
-ghost use Rattle.records.specs.Inner.Facts.{ConstraintRule};
+ghost use Rattle.rules.specs.Inner.Facts.{ConstraintRule};
 ghost use Rattle.balance.specs.Inner.Shapes.{aboveBy, belowBy, recoveryOf};
 use amounts::pools;
 use records::rows::Constraint;

@@ -85,7 +85,7 @@ fn balance_at(book: &[u8], h: Header, number: u64) -> Balanced
 pub fn pool_balance(book: &[u8], number: u64) -> Balanced
     ensures { λ x. ⌜ x ≡ balanceOf (now (book .entry)) number ⌝ }
 {
-    if let Verdict::Refused(number, place) = book::check(book) {
+    if let Verdict::Refused(number, place) = verdict::check(book) {
         return Balanced::Refused(number, place);
     }
     balance_at(book, header::header_of(book), number)

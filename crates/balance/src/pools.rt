@@ -11,7 +11,7 @@ ghost use Rattle.totals.specs.Divisors.{overRegions};
 ghost use Rattle.book.specs.Book.{bookIn};
 ghost use Rattle.book.specs.Inner.Facts.{Laid};
 ghost use Rattle.book.specs.Inner.Accepted.{Promise};
-ghost use Rattle.parties.specs.Inner.Shares.{partSum, Shareable};
+ghost use Rattle.sharing.specs.Inner.Shares.{partSum, Shareable};
 ghost use Rattle.balance.specs.Inner.Shapes.{constraintBasis, regionPaid, contingencyShape, regulationShape, contractShape};
 ghost use Rattle.balance.specs.Inner.Rests.{OfConstraint, OfContract, PartIs, Counted, PaidIs, ListsAre, Payable, AllPayable, rowPays};
 use crate::Balance;
@@ -21,16 +21,15 @@ use crate::units;
 use amounts::pools;
 use amounts::shares;
 use book::header::Header;
-use ground::sign;
 use market::Region;
 use market::Service;
-use parties::count;
-use parties::shares::Basis;
-use parties::shares::Part;
+use numbers::sign;
 use records::rows;
 use records::rows::Constraint;
 use records::rows::Contract;
 use records::rows::EnergyRow;
+use sharing::shares::Basis;
+use sharing::shares::Part;
 use totals::divisors;
 
 // How many accounts the book has.
@@ -41,7 +40,7 @@ pub(crate) fn accounts(book: &[u8], h: Header) -> usize
 {
     let energies = h.energies_at();
     let units = h.units_at();
-    count::all_accounts(
+    census::all_accounts(
         &book[energies..],
         h.energies as usize,
         &book[units..],
@@ -57,7 +56,7 @@ fn shared(book: &[u8], h: Header, p: Part) -> u64
     ensures { λ x. ⌜ (x ≡ partSum p (bookIn (now (book .entry)) h .energy) (h .energies)) × (x ≤ 51_200_000_000_000) ⌝ }
 {
     let energies = h.energies_at();
-    parties::shares::part_sum(&book[energies..], h.energies as usize, p)
+    sharing::shares::part_sum(&book[energies..], h.energies as usize, p)
 }
 
 // By which energy a constraint's cost is shared.

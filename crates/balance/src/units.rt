@@ -3,7 +3,7 @@ ghost use Prim.Native.Nat.{_*_, _≤_, _<_};
 ghost use lib.ListN.{length};
 ghost use Rattle.ground.specs.Units.{moneyLimit};
 ghost use Rattle.records.specs.Rows.{unitRow};
-ghost use Rattle.records.specs.Inner.Facts.{UnitRule};
+ghost use Rattle.rules.specs.Inner.Facts.{UnitRule};
 ghost use Rattle.factors.specs.Inner.Runs.{Walked};
 ghost use Rattle.balance.specs.Inner.Units.{RowAdded, SumsAre};
 use crate::kinds::Kind;

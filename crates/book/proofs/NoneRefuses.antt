@@ -16,11 +16,11 @@ use Rattle.sections.specs.declared.Verdict.the-variants.{Accepted, Refused}
 use Rattle.sections.proofs.First.{first-each, first-good}
 use Rattle.sections.proofs.Refusal.{record-held, first-held, earlier-last}
 use Rattle.records.specs.Rows.{entryRow, constraintRow, unitRow, energyRow}
-use Rattle.records.specs.Rules.{entryOk, constraintOk, unitOk, energyOk, contractOk, constraintBelow, unitBelow, energyBelow, contractBelow}
-use Rattle.records.specs.Inner.Checks.{sectionVerdict}
-use Rattle.records.specs.Inner.Facts.{EntryRule, ConstraintRule}
-use Rattle.records.specs.declared.section.Check.the-variants.{EntryFields, ConstraintFields, ContractFields, ConstraintOrder, ContractOrder}
-use Rattle.records.proofs.Rule.{entry-rules, constraint-rules, unit-rules, energy-rules, contract-rules, constraints-rise}
+use Rattle.rules.specs.Rules.{entryOk, constraintOk, unitOk, energyOk, contractOk, constraintBelow, unitBelow, energyBelow, contractBelow}
+use Rattle.rules.specs.Inner.Checks.{sectionVerdict}
+use Rattle.rules.specs.Inner.Facts.{EntryRule, ConstraintRule}
+use Rattle.rules.specs.declared.section.Check.the-variants.{EntryFields, ConstraintFields, ContractFields, ConstraintOrder, ContractOrder}
+use Rattle.rules.proofs.Rule.{entry-rules, constraint-rules, unit-rules, energy-rules, contract-rules, constraints-rise}
 use Rattle.factors.specs.Naming.{idOf, namedAt}
 use Rattle.factors.specs.Factors.{factorsAt}
 use Rattle.totals.specs.Sums.{entryHasSums}

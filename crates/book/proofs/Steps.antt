@@ -12,9 +12,9 @@ use Rattle.sections.specs.declared.Verdict.{Verdict}
 use Rattle.sections.specs.declared.Verdict.the-variants.{Accepted}
 use Rattle.sections.proofs.Refusal.{record-held, first-held, earlier-last}
 use Rattle.records.specs.Rows.{entryRow, constraintRow, unitRow, energyRow, contractRow}
-use Rattle.records.specs.Inner.Checks.{sectionVerdict}
-use Rattle.records.specs.declared.section.Check.the-variants.{EntryFields, ConstraintFields, UnitFields, EnergyFields, ContractFields, ConstraintOrder, UnitOrder, EnergyOrder, ContractOrder}
-use Rattle.records.proofs.Rule.{entry-rules, constraint-rules, unit-rules, energy-rules, contract-rules, constraints-rise, units-rise, energies-rise, contracts-rise}
+use Rattle.rules.specs.Inner.Checks.{sectionVerdict}
+use Rattle.rules.specs.declared.section.Check.the-variants.{EntryFields, ConstraintFields, UnitFields, EnergyFields, ContractFields, ConstraintOrder, UnitOrder, EnergyOrder, ContractOrder}
+use Rattle.rules.proofs.Rule.{entry-rules, constraint-rules, unit-rules, energy-rules, contract-rules, constraints-rise, units-rise, energies-rise, contracts-rise}
 use Rattle.factors.specs.Naming.{namedAt}
 use Rattle.factors.specs.Factors.{factorsAt}
 use Rattle.factors.proofs.Said.{owner-of, names-of}

@@ -10,7 +10,7 @@ use Rattle.sections.specs.First.{firstBad}
 use Rattle.sections.specs.Order.{risesBy}
 use Rattle.sections.specs.Refusal.{unless, atRecord, firstOf}
 use Rattle.sections.specs.declared.Verdict.{Verdict}
-use Rattle.records.specs.Rules.{entryOk, constraintOk, unitOk, energyOk, contractOk, constraintBelow, unitBelow, energyBelow, contractBelow}
+use Rattle.rules.specs.Rules.{entryOk, constraintOk, unitOk, energyOk, contractOk, constraintBelow, unitBelow, energyBelow, contractBelow}
 use Rattle.factors.specs.Naming.{namedAt}
 use Rattle.factors.specs.Factors.{factorsAt}
 use Rattle.totals.specs.Sums.{entryHasSums}

@@ -10,8 +10,8 @@ use crate::checks;
 use crate::header::Header;
 use quick::energies;
 use quick::units;
-use records::section;
-use records::section::Check;
+use rules::section;
+use rules::section::Check;
 use sections::Verdict;
 
 // 5 and 6 of the short sections: region entries, constraints, contracts.

@@ -1,7 +1,7 @@
 -- Every case of the table holds: each definition computes to what the document says. Assumes nothing.
 use mathlib.Core.Path.{refl}
 use Rattle.ground.specs.Le.{le16, le32, le64, int64}
-use Rattle.ground.specs.Sizes.{aboveOf, belowOf}
+use Rattle.numbers.specs.Sizes.{aboveOf, belowOf}
 use Rattle.sections.specs.Total.{total}
 use Rattle.records.specs.Rows.{entryRow, constraintRow, unitRow, energyRow}
 use Rattle.market.specs.Kinds.{modeWith}

@@ -6,7 +6,7 @@ use mathlib.Core.Path.{_≡_}
 use mathlib.Core.List.{List, [], _∷_, _++_}
 use mathlib.Core.Bool.{true, false}
 use lib.IntN.{ℤ}
-use Rattle.ground.specs.Sign.{signed}
+use Rattle.numbers.specs.Sign.{signed}
 use Rattle.book.specs.Book.{bookOf}
 use Rattle.amounts.specs.declared.pools.Pools.{Pools}
 use Rattle.amounts.specs.Pools.{poolsOf}

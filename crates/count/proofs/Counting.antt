@@ -15,7 +15,7 @@ use Rattle.sections.specs.Inner.Walk.{Under, Sought}
 use Rattle.sections.proofs.Walk.{under-later}
 use Rattle.sections.proofs.Total.{total-none, total-more, total-all, total-zero, total-same, total-plus, total-swap, total-only, total-five, keyed-hit, keyed-miss}
 use Rattle.sections.proofs.Search.{lt-or-ge}
-use Rattle.records.specs.Rules.{factorOf}
+use Rattle.rules.specs.Rules.{factorOf}
 use Rattle.records.specs.Rows.{entryRow, constraintRow, unitRow, contractRow}
 use Rattle.records.specs.declared.rows.Entry.{Entry}
 use Rattle.records.specs.declared.rows.Constraint.{Constraint}

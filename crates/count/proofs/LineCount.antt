@@ -11,7 +11,7 @@ use native.Mathlib.Nat.{le-refl}
 use Rattle.sections.specs.Inner.Order.{Rises}
 use Rattle.sections.specs.Total.{total, keyed, totalOf}
 use Rattle.sections.proofs.Total.{total-zero, total-under, total-plus, total-swap, total-bound, keyed-miss, keyed-le}
-use Rattle.records.specs.Rules.{factorOf}
+use Rattle.rules.specs.Rules.{factorOf}
 use Rattle.records.specs.declared.rows.Entry.{Entry}
 use Rattle.records.specs.declared.rows.Constraint.{Constraint}
 use Rattle.records.specs.declared.rows.UnitRow.{UnitRow}

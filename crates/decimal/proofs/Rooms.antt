@@ -7,7 +7,7 @@ use native.Mathlib.Omega.{arith}
 use lib.IntN.{ℤ, natAbs}
 use lib.ListN.{length, length-append}
 use Rattle.ground.specs.Inner.Put.{Wrote}
-use Rattle.ground.specs.Sign.{negative}
+use Rattle.numbers.specs.Sign.{negative}
 use Rattle.ground.proofs.Put.{wrote-none, wrote-length}
 use Rattle.decimal.specs.Decimal.{inRow, decimalOf, lastDigits, minusText, dollarsOf}
 use Rattle.decimal.proofs.Spelling.{few-digits, last-length}

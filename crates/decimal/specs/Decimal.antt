@@ -4,7 +4,7 @@ use mathlib.Core.List.{List, [], _∷_, _++_}
 use mathlib.Core.Bool.{Bool, true, false, cond}
 use lib.Dec.{ltb}
 use lib.IntN.{ℤ, natAbs}
-use Rattle.ground.specs.Sign.{negative}
+use Rattle.numbers.specs.Sign.{negative}
 
 -- pieces of text, one behind the other
 abbrev pub inRow : List (List ℕ) → List ℕ

@@ -5,8 +5,8 @@ ghost use Prim.Native.Nat.{_+_, _≤_, _<_};
 ghost use lib.ListN.{length};
 ghost use Rattle.ground.specs.Inner.Put.{Wrote};
 ghost use Rattle.decimal.specs.Decimal.{decimalOf, lastDigits, namedText, minusText, dollarsOf};
-use ground::sign;
 use ground::write;
+use numbers::sign;
 
 pub fn put_byte(text: &mut [u8], at: usize, b: u8) -> usize
     requires { ⌜ at + 1 ≤ length (now text) ⌝ }

@@ -14,15 +14,15 @@ use Rattle.sections.specs.declared.Verdict.the-variants.{Accepted, Refused}
 use Rattle.book.specs.Book.{bookOf}
 use Rattle.book.specs.Table.{verdict}
 use Rattle.accounts.specs.Account.{publicOf}
-use Rattle.parties.specs.Once.{has}
+use Rattle.sharing.specs.Once.{has}
 use Rattle.statement.specs.Lent.{Outcome, refuses, gives, answerFor, leftIn}
 use Rattle.statement.specs.declared.Written.the-variants as written
 use Rattle.statement.specs.Statement.{statementBytes}
-use Rattle.reading.specs.Reading.{isStatement, headingAt, lineAt, linesIn}
+use Rattle.parsing.specs.Parsing.{isStatement, headingAt, lineAt, linesIn}
 use Rattle.reading.specs.Calls.{headingRead, lineRead}
 use Rattle.reading.specs.declared.HeadingRead.the-variants as heading
 use Rattle.reading.specs.declared.LineRead.the-variants as line
-use Rattle.rewriting.specs.Rewriting.{rewritten}
+use Rattle.reading.specs.Rewriting.{rewritten}
 use Rattle.unpacking.specs.Unpacking.{allFields, unpacked}
 use Rattle.settlement.specs.Settle.{outcome}
 use Rattle.balance.specs.Pools.{Found, past, found, poolsIn, poolAt}

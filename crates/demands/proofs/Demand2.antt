@@ -18,18 +18,18 @@ use Rattle.book.proofs.Passed.{records-passed}
 use Rattle.book.specs.Table.{verdict, check8, check9}
 use Rattle.accounts.specs.Rows.{keep, sumOf}
 use Rattle.accounts.specs.Account.{publicOf, rowsOfAccount}
-use Rattle.parties.specs.Once.{has}
+use Rattle.sharing.specs.Once.{has}
 use Rattle.statement.specs.Statement.{statementBytes}
 use Rattle.statement.specs.Lent.{Outcome, refuses, gives}
 use Rattle.statement.specs.declared.Line.{Line}
-use Rattle.reading.specs.Reading.{headingAt, lineAt, linesIn, isStatement}
+use Rattle.parsing.specs.Parsing.{headingAt, lineAt, linesIn, isStatement}
 use Rattle.reading.specs.Calls.{headingRead, lineRead}
 use Rattle.reading.specs.declared.HeadingRead.{HeadingRead}
 use Rattle.reading.specs.declared.HeadingRead.the-variants as heading
 use Rattle.reading.specs.declared.LineRead.the-variants as line
-use Rattle.reading.proofs.Laid.{laid-length}
-use Rattle.reading.proofs.Trip.{read-and-written}
-use Rattle.rewriting.specs.Rewriting.{rewritten}
+use Rattle.parsing.proofs.Laid.{laid-length}
+use Rattle.parsing.proofs.Trip.{read-and-written}
+use Rattle.reading.specs.Rewriting.{rewritten}
 use Rattle.unpacking.specs.Unpacking.{allFields, unpacked}
 use Rattle.unpacking.proofs.Fields.{fields-length, fields-pieces}
 use Rattle.unpacking.proofs.Handed.{Stands, every-line-stands}

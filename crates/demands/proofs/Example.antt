@@ -9,7 +9,7 @@ use native.Mathlib.Omega.{arith}
 use lib.IntN.{ℤ}
 use lib.ListN.{length}
 use Rattle.ground.specs.Le.{le16, le32, le64, int64}
-use Rattle.ground.specs.Sizes.{aboveOf, belowOf}
+use Rattle.numbers.specs.Sizes.{aboveOf, belowOf}
 use Rattle.sections.specs.First.{andThen, firstBad}
 use Rattle.sections.specs.Order.{risesBy}
 use Rattle.sections.specs.Refusal.{unless, atRecord, earlier, firstOf}
@@ -18,7 +18,7 @@ use Rattle.sections.specs.Total.{total, keyed}
 use Rattle.calendar.specs.Calendar.{daysIn, isDate, isPeriod}
 use Rattle.records.specs.Rows.{entryRow, constraintRow, unitRow, energyRow, contractRow}
 use Rattle.market.specs.Kinds.{modeWith}
-use Rattle.records.specs.Rules.{termsOk, modeFits, sharesOk}
+use Rattle.rules.specs.Rules.{termsOk, modeFits, sharesOk}
 use Rattle.factors.specs.Naming.{namedAt}
 use Rattle.factors.specs.Factors.{factorsAt}
 use Rattle.totals.specs.Divisors.{basisOf, countedIn, constraintDivides, contractDivides}

@@ -8,9 +8,9 @@ use borrow.Author.Tests.{leb-true, leb-false, ltb-true, ltb-false}
 use lib.Dec.{leb, ltb}
 use lib.ListN.{length}
 use Rattle.statement.specs.declared.Line.{Line}
-use Rattle.reading.specs.Reading.{lineAt, linesIn}
+use Rattle.parsing.specs.Parsing.{lineAt, linesIn}
 use Rattle.reading.specs.declared.LineRead.the-variants as line
-use Rattle.reading.proofs.Laid.{lines-count}
+use Rattle.parsing.proofs.Laid.{lines-count}
 use Rattle.demands.specs.Demand2.{numbered}
 
 -- past the end

@@ -14,10 +14,10 @@ use Rattle.sections.specs.declared.Verdict.the-variants.{Accepted, Refused}
 use Rattle.book.specs.Book.{bookOf}
 use Rattle.book.specs.Table.{verdict, check1, check2, check3, check4, check5, check6, check7, check8, check9, check10}
 use Rattle.accounts.specs.Account.{publicOf, rowsOfAccount, unknown}
-use Rattle.parties.specs.Once.{has}
+use Rattle.sharing.specs.Once.{has}
 use Rattle.statement.specs.Lent.{Outcome, refuses, gives}
 use Rattle.lines.specs.Limit.{anyOver}
-use Rattle.reading.specs.Reading.{isStatement}
+use Rattle.parsing.specs.Parsing.{isStatement}
 use Rattle.reading.specs.Calls.{ifStatement}
 use Rattle.settlement.specs.Settle.{linesOf, settled, outcomeIf, outcome}
 use Rattle.demands.specs.Demand1.{onABook, onAStatement, onRewriting, OneOf}

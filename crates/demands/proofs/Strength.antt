@@ -9,7 +9,7 @@ use lib.Dec.{eqb}
 use lib.IntN.{ℤ, natAbs, _+ℤ_}
 use Rattle.ground.specs.Bytes.{i64At}
 use Rattle.ground.specs.Inner.Each.{Each}
-use Rattle.parties.specs.Once.{has}
+use Rattle.sharing.specs.Once.{has}
 use Rattle.statement.specs.Lent.{Outcome}
 use Rattle.reading.specs.Calls.{headingRead, lineRead}
 use Rattle.settlement.specs.Settle.{outcome}

@@ -11,10 +11,10 @@ use lib.ListN.{length}
 use Rattle.ground.specs.Put.{put}
 use Rattle.sections.specs.declared.Verdict.the-variants.{Accepted, Refused}
 use Rattle.book.specs.Table.{verdict}
-use Rattle.parties.specs.Once.{has}
+use Rattle.sharing.specs.Once.{has}
 use Rattle.statement.specs.Lent.{Outcome, refuses, gives}
 use Rattle.reading.specs.Calls.{headingRead, lineRead}
-use Rattle.rewriting.specs.Rewriting.{rewritten}
+use Rattle.reading.specs.Rewriting.{rewritten}
 use Rattle.unpacking.specs.Unpacking.{unpacked}
 use Rattle.settlement.specs.Settle.{outcome}
 use Rattle.balance.specs.Balance.{balanceOf}

@@ -12,7 +12,7 @@ use Rattle.book.specs.Book.{bookOf}
 use Rattle.book.specs.Table.{verdict}
 use Rattle.accounts.specs.Rows.{keep, sumOf}
 use Rattle.accounts.specs.Account.{publicOf, rowsOfAccount, unknown}
-use Rattle.parties.specs.Once.{times}
+use Rattle.sharing.specs.Once.{times}
 use Rattle.statement.specs.Statement.{statementBytes}
 use Rattle.statement.specs.declared.Heading.{Heading}
 use Rattle.statement.specs.declared.Line.{Line}

@@ -1,7 +1,7 @@
 // The three demands, asked of the library's calls themselves. Each function here makes one call (of demand 3, two), and its contract is the demand's own
 // definition: nothing lies between a demand and the edge, and a call that loses its promise is refused here. Nobody calls these functions.
 ghost use mathlib.Core.Path.{_≡_};
-ghost use Rattle.rewriting.specs.Rewriting.{rewritten};
+ghost use Rattle.reading.specs.Rewriting.{rewritten};
 ghost use Rattle.unpacking.specs.Unpacking.{unpacked};
 ghost use Rattle.settlement.specs.Settle.{outcome};
 ghost use Rattle.demands.specs.Demand1.{CheckAnswered, PoolAnswered, HeadingAnswered, EntryAnswered, Gives, Answered, onAStatement, onRewriting};

@@ -2,7 +2,7 @@
 ghost use mathlib.Core.Path.{_≡_};
 ghost use Rattle.book.specs.Table.{verdict};
 ghost use Rattle.reading.specs.Calls.{headingRead, lineRead};
-ghost use Rattle.rewriting.specs.Rewriting.{rewritten};
+ghost use Rattle.reading.specs.Rewriting.{rewritten};
 ghost use Rattle.unpacking.specs.Unpacking.{unpacked};
 ghost use Rattle.settlement.specs.Settle.{outcome};
 ghost use Rattle.balance.specs.Balance.{balanceOf};
@@ -40,7 +40,7 @@ fn answer(v: Verdict) -> VerdictAnswer
 pub extern "C" fn fervolatro_check(book: &[u8]) -> VerdictAnswer
     ensures { λ r. ⌜ r ≡ verdictAnswer (verdict (now (book .entry))) ⌝ }
 {
-    answer(book::check(book))
+    answer(verdict::check(book))
 }
 
 // `fervolatro_written`: refusal 0 is success, and then length is how many bytes were written.
@@ -183,7 +183,7 @@ pub extern "C" fn fervolatro_lines(bytes: &[u8], buffer: &mut [u8]) -> WrittenAn
 pub extern "C" fn fervolatro_rewrite(bytes: &[u8], buffer: &mut [u8]) -> WrittenAnswer
     ensures { λ r. ⌜ Called (rewritten (now (bytes .entry))) (now (buffer .entry)) r (now (buffer .exit)) ⌝ }
 {
-    written(rewriting::rewrite(bytes, buffer))
+    written(reading::rewriting::rewrite(bytes, buffer))
 }
 
 // `fervolatro_pool`: refusal 0 is success, and then the other fields are the pool's balance.

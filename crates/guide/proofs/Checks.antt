@@ -15,13 +15,13 @@ use mir.Facts.{toZ-pos}
 use Rattle.ground.specs.Bytes.{u32At, u64At, partFrom, AreBytes}
 use Rattle.ground.specs.Every.{allOf}
 use Rattle.ground.specs.Inner.Every.{Every}
-use Rattle.ground.specs.Sign.{less}
-use Rattle.ground.specs.Sizes.{sizeBelow, aboveOf, belowOf, InRange}
-use Rattle.ground.specs.Inner.Sizes.{Sides, above, below}
+use Rattle.numbers.specs.Sign.{less}
+use Rattle.numbers.specs.Sizes.{sizeBelow, aboveOf, belowOf, InRange}
+use Rattle.numbers.specs.Inner.Sizes.{Sides, above, below}
 use Rattle.ground.proofs.Every.{every, all}
 use Rattle.ground.proofs.Back.{u32-small}
 use Rattle.ground.proofs.Part.{part-bytes}
-use Rattle.ground.proofs.Sizes.{minus-is, minus-to-zero, zero-to, either-way, less-plus, less-zero, zero-less}
+use Rattle.numbers.proofs.Sizes.{minus-is, minus-to-zero, zero-to, either-way, less-plus, less-zero, zero-less}
 use Rattle.sections.specs.Total.{keyed, totalOf}
 use Rattle.sections.specs.declared.Verdict.the-variants.{Accepted}
 use Rattle.sections.proofs.Search.{all-each, all-of}

@@ -41,7 +41,7 @@ module _ (b : List ℕ) (a : AreBytes b) (p : Promise (bookOf b)) (account : ℕ
   own g = ownEnergy (rowsOfAccount (bookOf b) account .energies) g
 
   all-sized : (g : ℕ) → g < 5 → SizedEnergies (all g) (signedBook b .entry g)
-  all-sized g l = rw (entry-in (bookOf b .entry) g l) (sized-entry b a (p .fields) g l)
+  all-sized g l = rw (entry-in (bookOf b .entry) g l) (sized-entry b a (p .sound .fields) g l)
 
   own-sized : (g : ℕ) → SizedEnergies (own g) (guide.ownIn (signedBook b) account g)
   unfolding ownTotal ownEnergy guide.ownIn guide.ownSum energyRow energyAt
@@ -51,9 +51,9 @@ module _ (b : List ℕ) (a : AreBytes b) (p : Promise (bookOf b)) (account : ℕ
       let mine : ℕ → Bool = λ i. eqb (B .energy i .account) account && eqb (B .energy i .region) g in
       let n = headerOf b .energies in
       record {
-        ace = sum-minus (λ i. S .energy i .ace) (λ i. B .energy i .ace) mine n (λ i l. sized-energy b a (p .fields) i l .ace) ∙ ap (λ (k : ℕ). negℤ (pos k)) (own-in B account g (λ r. r .ace));
-        asoe = sum-pos (λ i. S .energy i .asoe) (λ i. B .energy i .asoe) mine n (λ i l. sized-energy b a (p .fields) i l .asoe) ∙ ap pos (own-in B account g (λ r. r .asoe));
-        residual = sum-pos (λ i. te (S .energy i)) (λ i. B .energy i .race + B .energy i .rasoe) mine n (λ i l. sized-energy b a (p .fields) i l .residual) ∙ ap pos (own-in B account g (λ r. r .race + r .rasoe));
+        ace = sum-minus (λ i. S .energy i .ace) (λ i. B .energy i .ace) mine n (λ i l. sized-energy b a (p .sound .fields) i l .ace) ∙ ap (λ (k : ℕ). negℤ (pos k)) (own-in B account g (λ r. r .ace));
+        asoe = sum-pos (λ i. S .energy i .asoe) (λ i. B .energy i .asoe) mine n (λ i l. sized-energy b a (p .sound .fields) i l .asoe) ∙ ap pos (own-in B account g (λ r. r .asoe));
+        residual = sum-pos (λ i. te (S .energy i)) (λ i. B .energy i .race + B .energy i .rasoe) mine n (λ i l. sized-energy b a (p .sound .fields) i l .residual) ∙ ap pos (own-in B account g (λ r. r .race + r .rasoe));
       }
 
   -- ---- a constraint and a contract
@@ -64,21 +64,21 @@ module _ (b : List ℕ) (a : AreBytes b) (p : Promise (bookOf b)) (account : ℕ
       let B = bookOf b in
       let r = B .constraint j in
       let z = signedBook b .constraint j in
-      let s = sized-constraint b a (p .fields) j l in
-      let h = p .fields .constraints j l in
+      let s = sized-constraint b a (p .sound .fields) j l in
+      let h = p .sound .fields .constraints j l in
       chosen 0 (s .mode)
       (λ m. ap (λ (x : Line). x ∷ []) (contingency-line r z s h all own (signedBook b .entry) (guide.ownIn (signedBook b) account) all-sized (λ g _. own-sized g) m))
       (λ live.
       ap₂ _++_
       (sym (joined-keep (B .unit) (ofConstraint r) (λ q. eqb (q .account) account) (headerOf b .units))
-      ∙ joined-same _ _ (headerOf b .units) (λ u m. own-unit r z s h (B .unit u) (signedBook b .unit u) (sized-unit b a (p .fields) u m) account live))
+      ∙ joined-same _ _ (headerOf b .units) (λ u m. own-unit r z s h (B .unit u) (signedBook b .unit u) (sized-unit b a (p .sound .fields) u m) account live))
       (rest-lines r z s h all own (signedBook b .entry) (guide.ownIn (signedBook b) account) all-sized (λ g _. own-sized g) live))
 
   contract-same : (k : ℕ) → k < headerOf b .contracts → contractLines all own (bookOf b .contract k) ≡ joined (guide.regionLines (signedBook b .entry) (guide.ownIn (signedBook b) account) (signedBook b .contract k)) 5
   unfolding contractLines
   contract-same k l =
       joined-same _ _ 5
-      (λ g m. region-lines (bookOf b .contract k) (signedBook b .contract k) (sized-contract b a (p .fields) k l) g m all own (signedBook b .entry) (guide.ownIn (signedBook b) account) (all-sized g m) (own-sized g))
+      (λ g m. region-lines (bookOf b .contract k) (signedBook b .contract k) (sized-contract b a (p .sound .fields) k l) g m all own (signedBook b .entry) (guide.ownIn (signedBook b) account) (all-sized g m) (own-sized g))
 
   -- ---- all lines
 

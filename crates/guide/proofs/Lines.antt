@@ -7,13 +7,13 @@ use native.Mathlib.Omega.{arith}
 use borrow.Author.Tests.{eqb-true, eqb-false, le-leb, lt-leb}
 use lib.Dec.{eqb}
 use lib.IntN.{ℤ, pos, negℤ, _-ℤ_, _*ℤ_}
-use Rattle.ground.specs.Round.{roundN}
-use Rattle.ground.proofs.Rounding.{round-share}
+use Rattle.numbers.specs.Round.{roundN}
+use Rattle.numbers.proofs.Rounding.{round-share}
 use Rattle.sections.specs.Total.{total}
 use Rattle.sections.proofs.Total.{total-same}
 use Rattle.market.specs.Kinds.{raises, regulates, bitSet, modeWith}
-use Rattle.records.specs.Rules.{factorOf}
-use Rattle.records.specs.Inner.Facts.{ConstraintRule}
+use Rattle.rules.specs.Rules.{factorOf}
+use Rattle.rules.specs.Inner.Facts.{ConstraintRule}
 use Rattle.records.specs.declared.rows.Entry.{Entry}
 use Rattle.records.specs.declared.rows.Constraint.{Constraint}
 use Rattle.records.specs.declared.rows.UnitRow.{UnitRow}

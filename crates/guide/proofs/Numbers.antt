@@ -7,12 +7,12 @@ use native.Mathlib.Omega.{arith}
 use native.Mathlib.Nat.{mul-zero, mul-comm, div-zero, le-refl}
 use borrow.Author.Tests.{le-ltb}
 use lib.IntN.{ℤ, pos, negℤ, natAbs, _+ℤ_, _-ℤ_, _*ℤ_, +ℤ-idl, +ℤ-idr, negℤ-negℤ, negℤ-+ℤ, *ℤ-comm}
-use Rattle.ground.specs.Round.{roundN, roundZ}
-use Rattle.ground.specs.Sign.{less}
-use Rattle.ground.specs.Inner.Sizes.{Sides, above, below}
-use Rattle.ground.proofs.Rounding.{round-zero, round-signed}
-use Rattle.ground.proofs.Signs.{size-signed}
-use Rattle.ground.proofs.Sizes.{less-plus}
+use Rattle.numbers.specs.Round.{roundN, roundZ}
+use Rattle.numbers.specs.Sign.{less}
+use Rattle.numbers.specs.Inner.Sizes.{Sides, above, below}
+use Rattle.numbers.proofs.Rounding.{round-zero, round-signed}
+use Rattle.numbers.proofs.Signs.{size-signed}
+use Rattle.numbers.proofs.Sizes.{less-plus}
 use Rattle.sections.specs.Total.{total}
 use Rattle.amounts.specs.Shares.{byFactor, byEnergy}
 use Rattle.amounts.proofs.Signed.{charge-shared}

@@ -10,15 +10,15 @@ use mir.Syntax.{w32, w64}
 use mir.Val.{toZ}
 use mir.Facts.{toZ-pos}
 use Rattle.ground.specs.Bytes.{u32At, u64At, partFrom, AreBytes}
-use Rattle.ground.specs.Sizes.{sizeBelow, aboveOf, belowOf}
-use Rattle.ground.specs.Inner.Sizes.{Sides}
+use Rattle.numbers.specs.Sizes.{sizeBelow, aboveOf, belowOf}
+use Rattle.numbers.specs.Inner.Sizes.{Sides}
 use Rattle.ground.proofs.Back.{u32-small}
 use Rattle.ground.proofs.Part.{part-bytes}
-use Rattle.ground.proofs.Signs.{size-signed}
-use Rattle.ground.proofs.Sizes.{sides-of, minus-is}
+use Rattle.numbers.proofs.Signs.{size-signed}
+use Rattle.numbers.proofs.Sizes.{sides-of, minus-is}
 use Rattle.records.specs.Rows.{entryRow, constraintRow, unitRow, energyRow, contractRow}
-use Rattle.records.specs.Rules.{factorOf}
-use Rattle.records.specs.Inner.Facts.{EntryRule, ConstraintRule, UnitRule, EnergyRule, ContractRule}
+use Rattle.rules.specs.Rules.{factorOf}
+use Rattle.rules.specs.Inner.Facts.{EntryRule, ConstraintRule, UnitRule, EnergyRule, ContractRule}
 use Rattle.records.specs.declared.rows.Entry.{Entry}
 use Rattle.records.specs.declared.rows.Constraint.{Constraint}
 use Rattle.records.specs.declared.rows.UnitRow.{UnitRow}

@@ -5,7 +5,7 @@ use mathlib.Core.Bool.{cond}
 use mathlib.Core.Logic.{_↔_}
 use lib.Dec.{eqb}
 use lib.IntN.{ℤ, pos, negℤ, _+ℤ_}
-use Rattle.ground.specs.Sizes.{InRange}
+use Rattle.numbers.specs.Sizes.{InRange}
 use Rattle.ground.specs.Units.{million, moneyLimit, energyLimit}
 use Rattle.book.specs.Book.{Book}
 use Rattle.guide.specs.Numbers.{sum, min0, wholeFactor}

@@ -1,7 +1,7 @@
 -- Whole numbers with their signs: sums, quotients that are rounded, and the smaller of 0 and a number.
 use Prim.Native.Nat.{ℕ, zero, suc}
 use lib.IntN.{ℤ, pos, negsuc, negℤ, _+ℤ_}
-use Rattle.ground.specs.Round.{roundZ}
+use Rattle.numbers.specs.Round.{roundZ}
 use Rattle.ground.specs.Units.{million}
 
 -- x 0 + x 1 + .. + x (n - 1)

@@ -9,11 +9,11 @@ use borrow.Author.Tests.{le-ltb}
 use lib.Dec.{eqb}
 use lib.IntN.{natAbs}
 use Rattle.ground.specs.Inner.Each.{Each}
-use Rattle.ground.specs.Sign.{less}
+use Rattle.numbers.specs.Sign.{less}
 use Rattle.ground.proofs.Each.{each-choice}
-use Rattle.ground.proofs.Rounding.{round-share}
-use Rattle.ground.proofs.Sizes.{less-size}
-use Rattle.records.specs.Inner.Facts.{UnitRule}
+use Rattle.numbers.proofs.Rounding.{round-share}
+use Rattle.numbers.proofs.Sizes.{less-size}
+use Rattle.rules.specs.Inner.Facts.{UnitRule}
 use Rattle.records.specs.declared.rows.Constraint.{Constraint}
 use Rattle.records.specs.declared.rows.UnitRow.{UnitRow}
 use Rattle.amounts.specs.Shares.{byFactor, byEnergy}

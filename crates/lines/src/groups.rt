@@ -2,7 +2,7 @@
 // Each writer answers where its lines end.
 ghost use mathlib.Core.List.{[], _∷_};
 ghost use lib.ListN.{length};
-ghost use Rattle.records.specs.Inner.Facts.{UnitRule};
+ghost use Rattle.rules.specs.Inner.Facts.{UnitRule};
 ghost use Rattle.amounts.specs.Inner.Bounds.{SmallPools, SmallResidual};
 ghost use Rattle.lines.specs.Lines.{unitLines, restLines};
 ghost use Rattle.lines.specs.Inner.Shared.{Shared};

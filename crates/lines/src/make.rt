@@ -2,7 +2,7 @@
 ghost use mathlib.Core.Path.{_≡_};
 ghost use Prim.Native.Nat.{_≤_, _<_};
 ghost use Rattle.ground.specs.Units.{moneyLimit};
-ghost use Rattle.records.specs.Inner.Facts.{ConstraintRule, UnitRule};
+ghost use Rattle.rules.specs.Inner.Facts.{ConstraintRule, UnitRule};
 ghost use Rattle.amounts.specs.Inner.Bounds.{SmallPools, SmallResidual, SmallHalves};
 ghost use Rattle.lines.specs.Lines.{contingencyPart, contingencyLine, sharedLine, fppLine, usedLine, unusedLine, fppRest, usedRest, unusedRest, aceLine, asoeLine};
 ghost use Rattle.lines.specs.Inner.Shared.{Shared};

@@ -12,7 +12,7 @@ use Rattle.ground.proofs.Every.{every, all}
 use Rattle.sections.specs.Total.{keyed, totalOf}
 use Rattle.sections.proofs.First.{first-good}
 use Rattle.sections.proofs.Total.{keyed-hit, total-has}
-use Rattle.records.specs.Inner.Facts.{EntryRule}
+use Rattle.rules.specs.Inner.Facts.{EntryRule}
 use Rattle.records.specs.declared.rows.Entry.{Entry}
 use Rattle.records.specs.declared.rows.EnergyRow.{EnergyRow}
 use Rattle.totals.specs.Sums.{regionOf, aceOf, asoeOf, entryIs, entryHasSums}

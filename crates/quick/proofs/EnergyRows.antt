@@ -14,7 +14,7 @@ use Rattle.ground.proofs.Every.{every, all}
 use Rattle.sections.specs.Order.{pairBelow}
 use Rattle.sections.proofs.Search.{lt-or-ge}
 use Rattle.records.specs.Rows.{energyRow}
-use Rattle.records.specs.Rules.{energyTests, energyOk}
+use Rattle.rules.specs.Rules.{energyTests, energyOk}
 use Rattle.records.specs.declared.rows.Entry.{Entry}
 use Rattle.records.specs.declared.rows.EnergyRow.{EnergyRow}
 use Rattle.totals.specs.Sums.{entryIs}

@@ -16,7 +16,7 @@ use Rattle.sections.specs.Inner.Walk.{Split}
 use Rattle.sections.proofs.Order.{rises-first, rises-later, rises-step}
 use Rattle.sections.proofs.Search.{lt-or-ge}
 use Rattle.sections.proofs.Groups.{split-more, split-bound}
-use Rattle.records.specs.Rules.{energyBelow}
+use Rattle.rules.specs.Rules.{energyBelow}
 use Rattle.records.specs.declared.rows.EnergyRow.{EnergyRow}
 use Rattle.totals.specs.Inner.Turns.{TotalsOf}
 use Rattle.totals.specs.declared.entries.Totals.{Totals}

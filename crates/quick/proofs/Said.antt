@@ -8,7 +8,7 @@ use Rattle.ground.proofs.Every as tests
 use Rattle.sections.specs.Order.{risesBy}
 use Rattle.sections.specs.Search.{all}
 use Rattle.sections.proofs.Search.{all-each, all-of}
-use Rattle.records.specs.Rules.{unitOk, energyOk, unitBelow, energyBelow}
+use Rattle.rules.specs.Rules.{unitOk, energyOk, unitBelow, energyBelow}
 use Rattle.records.specs.declared.rows.Entry.{Entry}
 use Rattle.records.specs.declared.rows.Constraint.{Constraint}
 use Rattle.records.specs.declared.rows.UnitRow.{UnitRow}

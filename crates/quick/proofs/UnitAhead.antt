@@ -13,10 +13,10 @@ use Rattle.sections.proofs.First.{first-good}
 use Rattle.sections.proofs.Order.{rise-keep}
 use Rattle.sections.proofs.Search.{lt-or-ge}
 use Rattle.sections.proofs.Total.{total-zero, total-rest, keyed-miss}
-use Rattle.records.specs.Inner.Facts.{ConstraintRule}
+use Rattle.rules.specs.Inner.Facts.{ConstraintRule}
 use Rattle.records.specs.declared.rows.Constraint.{Constraint}
 use Rattle.records.specs.declared.rows.UnitRow.{UnitRow}
-use Rattle.records.proofs.Rule.{unit-rules, units-rise}
+use Rattle.rules.proofs.Rule.{unit-rules, units-rise}
 use Rattle.factors.specs.Naming.{idOf, keyOf}
 use Rattle.factors.specs.Inner.Facts.{Owner}
 use Rattle.factors.specs.Factors.{sumOver}

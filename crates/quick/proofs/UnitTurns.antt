@@ -10,7 +10,7 @@ use lib.Dec.{eqb, leb, ltb}
 use native.Mathlib.Omega.{arith}
 use native.Mathlib.Nat.{le-refl}
 use Rattle.ground.specs.Bytes.{u32At}
-use Rattle.ground.specs.Sizes.{sizeBelow, aboveOf, belowOf}
+use Rattle.numbers.specs.Sizes.{sizeBelow, aboveOf, belowOf}
 use Rattle.ground.proofs.Every.{every, all}
 use Rattle.sections.specs.Order.{risesBy, pairBelow}
 use Rattle.sections.specs.Inner.Walk.{Under}
@@ -20,7 +20,7 @@ use Rattle.sections.proofs.Search.{lt-or-ge}
 use Rattle.sections.proofs.Total.{total-zero, total-bound, keyed-miss, keyed-le}
 use Rattle.sections.proofs.Walk.{sum-more}
 use Rattle.records.specs.Rows.{unitRow}
-use Rattle.records.specs.Rules.{unitBelow}
+use Rattle.rules.specs.Rules.{unitBelow}
 use Rattle.records.specs.declared.rows.Constraint.{Constraint}
 use Rattle.records.specs.declared.rows.UnitRow.{UnitRow}
 use Rattle.factors.specs.Naming.{keyOf}

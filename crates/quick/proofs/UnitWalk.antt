@@ -16,8 +16,8 @@ use Rattle.sections.specs.Inner.Walk.{Under}
 use Rattle.sections.specs.Total.{keyed}
 use Rattle.sections.proofs.Search.{some-here, lt-or-ge}
 use Rattle.sections.proofs.Total.{total-rest, keyed-hit, keyed-miss, total-has}
-use Rattle.records.specs.Rules.{unitTests, unitOk, unitBelow}
-use Rattle.records.specs.Inner.Facts.{ConstraintRule}
+use Rattle.rules.specs.Rules.{unitTests, unitOk, unitBelow}
+use Rattle.rules.specs.Inner.Facts.{ConstraintRule}
 use Rattle.records.specs.declared.rows.Constraint.{Constraint}
 use Rattle.records.specs.declared.rows.UnitRow.{UnitRow}
 use Rattle.factors.specs.Naming.{idOf, keyOf, namedAt}

@@ -5,7 +5,7 @@ ghost use mathlib.Core.Path.{_≡_};
 ghost use Prim.Native.Nat.{ℕ, _+_, _*_, _≤_, _<_};
 ghost use lib.ListN.{length, getD, set};
 ghost use Rattle.records.specs.Rows.{entryRow, energyRow};
-ghost use Rattle.records.specs.Inner.Facts.{EntryRule};
+ghost use Rattle.rules.specs.Inner.Facts.{EntryRule};
 ghost use Rattle.totals.specs.Sums.{entryIs};
 ghost use Rattle.quick.specs.Inner.Holds.{energiesHold};
 ghost use Rattle.quick.specs.Inner.Energies.{rowHolds, SumRoom, EnergyAdded, SummedIs};

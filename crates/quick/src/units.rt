@@ -8,7 +8,7 @@ ghost use lib.ListN.{length};
 ghost use Rattle.sections.specs.Inner.Order.{Rises};
 ghost use Rattle.sections.specs.Inner.Walk.{Under};
 ghost use Rattle.records.specs.Rows.{constraintRow, unitRow};
-ghost use Rattle.records.specs.Inner.Facts.{ConstraintRule};
+ghost use Rattle.rules.specs.Inner.Facts.{ConstraintRule};
 ghost use Rattle.factors.specs.Naming.{idOf, keyOf};
 ghost use Rattle.quick.specs.Inner.Holds.{unitsHold};
 ghost use Rattle.quick.specs.Inner.Units.{follows, smallSums, runHolds, Taken};

@@ -21,7 +21,7 @@ use Rattle.ground.proofs.Each.{each-at}
 use Rattle.ground.proofs.Every.{every, all}
 use Rattle.ground.proofs.Part.{part-between, part-byte, part-u16, part-u32, part-i64}
 use Rattle.ground.proofs.Back.{u16-stands, u32-stands, i64-stands}
-use Rattle.ground.proofs.Signs.{sized}
+use Rattle.numbers.proofs.Signs.{sized}
 use Rattle.calendar.specs.Calendar.{daysIn, isInterval, isDate, isRun, isPeriod}
 use Rattle.sections.proofs.Search.{all-of}
 use Rattle.statement.specs.Statement.{rcs, headingBytes, lineBytes, linesBytes, statementBytes}

@@ -10,7 +10,7 @@ use lib.IntN.{ℤ, natAbs}
 use lib.ListN.{length}
 use Rattle.ground.specs.Bytes.{byteAt, u16At, u32At, i64At}
 use Rattle.ground.specs.Every.{allOf}
-use Rattle.ground.specs.Sign.{negative}
+use Rattle.numbers.specs.Sign.{negative}
 use Rattle.ground.specs.Units.{moneyLimit, mostLines}
 use Rattle.calendar.specs.Calendar.{isPeriod}
 use Rattle.sections.specs.Search.{all}

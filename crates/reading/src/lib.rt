@@ -6,7 +6,7 @@ ghost use Rattle.sections.specs.Search.{all};
 ghost use Rattle.reading.specs.Reading.{statementMarked, headingAt, headingOk, lineFrom, lineAt, spareClear, oneBit, regionsOk, unitFieldOk, amountOk, lineOk, lineHolds, headed, isStatement};
 ghost use Rattle.reading.specs.Calls.{headingRead, lineRead};
 use ground::read;
-use ground::sign;
+use numbers::sign;
 use statement::Heading;
 use statement::Line;
 

@@ -6,7 +6,7 @@ use native.Mathlib.Numerals.{add-one}
 use mathlib.Core.List.{List, [], _∷_}
 use mathlib.Core.Path.{_≡_}
 use Rattle.ground.specs.Bytes.{byteAt, u24At, u32At, u64At}
-use Rattle.ground.specs.Sizes.{sizeBelow, aboveOf, belowOf}
+use Rattle.numbers.specs.Sizes.{sizeBelow, aboveOf, belowOf}
 use Rattle.records.specs.Rows.{entryRow, constraintRow, unitRow, energyRow, contractRow}
 use Rattle.records.specs.declared.rows.Entry.{Entry}
 use Rattle.records.specs.declared.rows.Constraint.{Constraint}

@@ -4,7 +4,7 @@
 use Prim.Native.Nat.{ℕ, _+_, _*_}
 use mathlib.Core.List.{List, [], _∷_}
 use Rattle.ground.specs.Bytes.{byteAt, u24At, u32At, u64At}
-use Rattle.ground.specs.Sizes.{sizeBelow, aboveOf, belowOf}
+use Rattle.numbers.specs.Sizes.{sizeBelow, aboveOf, belowOf}
 use Rattle.records.specs.declared.rows.Entry.{Entry}
 use Rattle.records.specs.declared.rows.Constraint.{Constraint}
 use Rattle.records.specs.declared.rows.UnitRow.{UnitRow}

@@ -14,10 +14,10 @@ use Rattle.statement.specs.Lent.{Lent}
 use Rattle.statement.specs.declared.Heading.{Heading}
 use Rattle.statement.specs.declared.Written.the-variants.{Length, Refused}
 use Rattle.statement.proofs.Lines.{statement-length, heading-end, wrote-statement}
-use Rattle.reading.specs.Reading.{headingAt, linesIn, isStatement}
-use Rattle.reading.proofs.Whole.{headed-length}
+use Rattle.parsing.specs.Parsing.{headingAt, linesIn, isStatement}
+use Rattle.parsing.proofs.Whole.{headed-length}
 use Rattle.reading.proofs.Ends.{statement-headed, not-written, no-room, all-written}
-use Rattle.reading.proofs.Laid.{lines-count}
+use Rattle.parsing.proofs.Laid.{lines-count}
 use Rattle.rewriting.specs.Rewriting.{rewritten}
 
 -- the bytes that are written

@@ -4,7 +4,7 @@ use mathlib.Core.List.{List, [], _∷_, _++_}
 use Rattle.statement.specs.Statement.{lineBytes, linesBytes}
 use Rattle.statement.specs.declared.Line.{Line}
 use Rattle.statement.proofs.Lines.{lines-append, lines-one}
-use Rattle.reading.proofs.Laid.{Pieces}
+use Rattle.parsing.proofs.Laid.{Pieces}
 
 lines-more : (ls : List Line) (x : Line) → linesBytes (ls ++ (x ∷ [])) ≡ linesBytes ls ++ lineBytes x
 lines-more ls x = rw (lines-append ls (x ∷ []), lines-one x)

@@ -4,7 +4,7 @@ use Prim.Native.Nat.{ℕ}
 use mathlib.Core.List.{List}
 use Rattle.statement.specs.Statement.{statementBytes}
 use Rattle.statement.specs.Lent.{Outcome}
-use Rattle.reading.specs.Reading.{headingAt, linesIn}
+use Rattle.parsing.specs.Parsing.{headingAt, linesIn}
 use Rattle.reading.specs.Calls.{ifStatement}
 
 unfoldable pub rewritten : List ℕ → Outcome

@@ -4,7 +4,7 @@ ghost use Prim.Native.Nat.{_+_, _*_, _≤_};
 ghost use lib.ListN.{length};
 ghost use Rattle.ground.specs.Put.{put};
 ghost use Rattle.statement.specs.Statement.{linesBytes};
-ghost use Rattle.reading.specs.Reading.{linesIn};
+ghost use Rattle.parsing.specs.Parsing.{linesIn};
 ghost use Rattle.statement.specs.Lent.{Lent};
 ghost use Rattle.rewriting.specs.Rewriting.{rewritten};
 use statement::Written;
@@ -16,7 +16,7 @@ fn put_lines(buffer: &mut [u8], s: &[u8], n: usize)
 {
     let mut i = 0;
     while i < n {
-        statement::put_line(buffer, 24 + i * 24, reading::line_at(s, i));
+        statement::put_line(buffer, 24 + i * 24, parsing::line_at(s, i));
         i += 1;
     }
 }
@@ -25,13 +25,13 @@ fn put_lines(buffer: &mut [u8], s: &[u8], n: usize)
 pub fn rewrite(s: &[u8], buffer: &mut [u8]) -> Written
     ensures { λ r. ⌜ Lent (rewritten (now (s .entry))) (now (buffer .entry)) r (now (buffer .exit)) ⌝ }
 {
-    if !reading::is_statement(s) {
+    if !parsing::is_statement(s) {
         return Written::Refused(14, 0);
     }
     if buffer.len() < s.len() {
         return Written::Refused(13, 0);
     }
-    let heading = reading::heading_at(s);
+    let heading = parsing::heading_at(s);
     let lines = heading.lines as usize;
     statement::put_heading(buffer, heading);
     put_lines(buffer, s, lines);

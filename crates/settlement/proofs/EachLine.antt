@@ -7,8 +7,7 @@ use borrow.Author.Tests.{eqb-false}
 use lib.Dec.{eqb}
 use Rattle.ground.specs.Inner.Each.{Each}
 use Rattle.ground.proofs.Each.{each-append, each-choice}
-use Rattle.records.specs.Rules.{factorOf}
-use Rattle.factors.specs.Naming.{keyOf}
+use Rattle.rules.specs.Rules.{factorOf}
 use Rattle.totals.specs.Divisors.{overRegions}
 use Rattle.totals.specs.Inner.Totals.{entryOf}
 use Rattle.totals.specs.declared.entries.Totals.{Totals}
@@ -38,7 +37,7 @@ module _ (P : Line → Type 0) (B : Book) (own : Totals) where
     constraint-each j l =
         each-choice P (eqb (B .constraint j .mode) 0) _ _ (h .contingency j l, tt)
         (each-append P (joined (unitLinesAt (B .unit) account (B .constraint j) (poolsOf (B .constraint j))) (B .header .units)) _
-        (each-joined P _ (B .header .units) (λ u m. each-choice P (eqb (keyOf (B .unit) u) (B .constraint j .id)) _ [] (each-choice P (eqb (B .unit u .account) account) _ [] (h .units j l u m) tt) tt))
+        (each-joined P _ (B .header .units) (λ u m. each-choice P (eqb (B .unit u .constraint) (B .constraint j .id)) _ [] (each-choice P (eqb (B .unit u .account) account) _ [] (h .units j l u m) tt) tt))
         (h .rest j l))
 
     region-each : (k : ℕ) → k < B .header .contracts → (g : ℕ) → g < 5 → Each P (regionLines (B .entry) (entryOf own) (B .contract k) g)

@@ -83,12 +83,12 @@ module _ (B : Book) (account : ℕ) (p : Promise B) where
       omega (
         arith,
         length-append c k,
-        few-lines (B .entry) (B .constraint) (B .header .constraints) (B .unit) (B .header .units) account own (p .ordered .constraints),
+        few-lines (B .entry) (B .constraint) (B .header .constraints) (B .unit) (B .header .units) account own (p .sound .ordered .constraints),
         few-pays (B .entry) (entryOf own) (B .contract) (B .header .contracts),
       )
 
   pub few-of : (own : Totals) → length (bookLines B account own) ≤ 2152
-  few-of own = omega (arith, most-of own, p .few .constraints, p .few .units, p .few .contracts)
+  few-of own = omega (arith, most-of own, p .sound .few .constraints, p .sound .few .units, p .sound .few .contracts)
 
   -- with room for the most lines there is room
   pub room-for-all : {most room : ℕ} → most ≡ 3 * B .header .units + 3 * B .header .constraints + 10 * B .header .contracts → 24 + most * 24 ≤ room → (own : Totals) → false ≡ ltb room (24 + length (bookLines B account own) * 24)
@@ -140,7 +140,7 @@ module _ (b : List ℕ) (account : ℕ) {v : Verdict} (q : v ≡ verdict b) wher
     given = accepted b (sym q ∙ e)
 
     pub laid-in : {h : Header} → h ≡ headerOf b → Laid b h
-    laid-in i = rw i (record { few = given .promise .few; long = given .long })
+    laid-in i = rw i (record { few = given .promise .sound .few; long = given .long })
 
     pub promised-in : {h : Header} → h ≡ headerOf b → Promise (bookIn b h)
     promised-in i = rw i (given .promise)

@@ -6,11 +6,9 @@ use native.Mathlib.Omega.{arith}
 use native.Mathlib.Nat.{le-trans}
 use Rattle.sections.proofs.Total.{total-bound, total-under}
 use Rattle.market.specs.Kinds.{raises, regulates, bitSet}
-use Rattle.records.specs.Inner.Facts.{EntryRule}
+use Rattle.rules.specs.Inner.Facts.{EntryRule}
 use Rattle.records.specs.declared.rows.Entry.{Entry}
 use Rattle.records.specs.declared.rows.Constraint.{Constraint}
-use Rattle.factors.specs.Naming.{idOf, keyOf}
-use Rattle.factors.proofs.Said.{names-of}
 use Rattle.totals.specs.Divisors.{basisOf, countedIn, overRegions}
 use Rattle.totals.specs.Inner.Totals.{entryOf}
 use Rattle.totals.specs.declared.entries.Totals.{Totals}
@@ -48,20 +46,20 @@ within-share r e x g w = by (bitSet (r .mask) g) (regulates (r .service)) (raise
 
 module _ (B : Book) (h : Promise B) where
   -- no unit row names a constraint of mode 0
-  pub bare-of : (j : ℕ) → j < B .header .constraints → B .constraint j .mode ≡ 0 → (u : ℕ) → u < B .header .units → keyOf (B .unit) u ≡ B .constraint j .id → ⊥
+  pub bare-of : (j : ℕ) → j < B .header .constraints → B .constraint j .mode ≡ 0 → (u : ℕ) → u < B .header .units → B .unit u .constraint ≡ B .constraint j .id → ⊥
   bare-of j l z u b e =
-      let o = h .owner u b in
-      let same = rises-once (idOf (B .constraint)) (B .header .constraints) (h .ordered .constraints) (o .place) j (o .within) l (o .same ∙ e) in
+      let o = h .sound .owner u b in
+      let same = rises-once (λ j. B .constraint j .id) (B .header .constraints) (h .sound .ordered .constraints) (o .place) j (o .within) l (o .same ∙ e) in
       o .live (ap (λ i. B .constraint i .mode) same ∙ z)
 
   -- all that counting an account's lines rests on
   pub countable-of : Countable (B .constraint) (B .header .constraints) (B .unit) (B .header .units)
   countable-of =
       record {
-        few = h .few .constraints;
-        walked = record { few = h .few .units; rules = h .fields .units; keep = record { keep = h .ordered .units .first } };
-        rise = h .ordered .constraints;
-        names = names-of (B .constraint) (B .header .constraints) (B .unit) (B .header .units) (h .owner);
+        few = h .sound .few .constraints;
+        walked = record { few = h .sound .few .units; rules = h .sound .fields .units; keep = record { keep = h .sound .ordered .units .first } };
+        rise = h .sound .ordered .constraints;
+        names = h .sound .named .names;
         bare = bare-of;
       }
 
@@ -72,20 +70,20 @@ module _ (B : Book) (h : Promise B) where
         record {
           part = total-under (λ g. countedIn (B .constraint j) (entryOf own g) g) (λ g. countedIn (B .constraint j) (B .entry g) g) 5 (λ g b. within-share (B .constraint j) (B .entry g) (entryOf own g) g (own-within g b));
           above = h .divisor j l;
-          below = omega (arith, total-bound (λ g. countedIn (B .constraint j) (B .entry g) g) 20_000_000 5 (λ g b. share-small (B .constraint j) (B .entry g) g (h .fields .entries g b)));
+          below = omega (arith, total-bound (λ g. countedIn (B .constraint j) (B .entry g) g) 20_000_000 5 (λ g b. share-small (B .constraint j) (B .entry g) g (h .sound .fields .entries g b)));
         }
 
     -- all that settling its constraints rests on
     pub ready-of : Ready (B .entry) (B .constraint) (B .header .constraints) (B .unit) (B .header .units) own
     ready-of =
         record {
-          rules = h .fields .constraints;
+          rules = h .sound .fields .constraints;
           walked = countable-of .walked;
           rise = countable-of .rise;
           names = countable-of .names;
           bare = bare-of;
-          entries = h .fields .entries;
-          energy = λ g b. within-rule (B .entry g) (entryOf own g) (own-within g b) (h .fields .entries g b);
+          entries = h .sound .fields .entries;
+          energy = λ g b. within-rule (B .entry g) (entryOf own g) (own-within g b) (h .sound .fields .entries g b);
           shared = shared-of;
         }
 
@@ -93,9 +91,9 @@ module _ (B : Book) (h : Promise B) where
     pub payable-of : (k : ℕ) → k < B .header .contracts → ContractSettles (B .entry) (B .contract k) own
     payable-of k l =
         record {
-          rule = h .fields .contracts k l;
-          ace = λ g b d. part (own-within g b .ace) (h .funded k l g b d .ace) (h .fields .entries g b .ace);
-          asoe = λ g b d. part (own-within g b .asoe) (h .funded k l g b d .asoe) (h .fields .entries g b .asoe);
+          rule = h .sound .fields .contracts k l;
+          ace = λ g b d. part (own-within g b .ace) (h .funded k l g b d .ace) (h .sound .fields .entries g b .ace);
+          asoe = λ g b d. part (own-within g b .asoe) (h .funded k l g b d .asoe) (h .sound .fields .entries g b .asoe);
         }
       where
         part : {x y : ℕ} → x ≤ y → 0 < y → y ≤ 20_000_000 → Shared x y

@@ -9,7 +9,7 @@ use Rattle.ground.specs.Bytes.{partFrom}
 use Rattle.sections.specs.Search.{some}
 use Rattle.sections.proofs.Search.{some-none}
 use Rattle.records.specs.Rows.{constraintRow, contractRow}
-use Rattle.records.specs.Inner.Facts.{ConstraintRule}
+use Rattle.rules.specs.Inner.Facts.{ConstraintRule}
 use Rattle.records.specs.declared.rows.Constraint.{Constraint}
 use Rattle.totals.specs.declared.entries.Totals.{Totals}
 use Rattle.amounts.specs.Pools.{poolsOf}
@@ -53,8 +53,8 @@ module _ (B : Book) (p : Promise B) where
   unfolding bookOver
   book-under =
       rw (
-        some-none (λ j. constraintOver (B .constraint j)) (B .header .constraints) (λ j l. constraint-under (B .constraint j) (p .fields .constraints j l)),
-        some-none (λ k. contractOver (B .contract k)) (B .header .contracts) (λ k l. le-ltb _ _ (p .fields .contracts k l .payment)),
+        some-none (λ j. constraintOver (B .constraint j)) (B .header .constraints) (λ j l. constraint-under (B .constraint j) (p .sound .fields .constraints j l)),
+        some-none (λ k. contractOver (B .contract k)) (B .header .contracts) (λ k l. le-ltb _ _ (p .sound .fields .contracts k l .payment)),
       )
 
   -- ---- its lines
@@ -63,10 +63,10 @@ module _ (B : Book) (p : Promise B) where
     kinds-within : EachKind Within B own
     kinds-within =
         record {
-          contingency = λ j l. contingency-within (B .constraint j) (p .fields .constraints j l .cost) (w .ready .shared j l);
-          units = λ j l u m. unit-within (B .constraint j) (poolsOf (B .constraint j)) (B .unit u) (pools-small (B .constraint j) (p .fields .constraints j l)) (p .fields .units u m);
-          rest = λ j l. rest-within (B .constraint j) _ (residual-small (B .constraint j) (poolsOf (B .constraint j)) (p .fields .constraints j l) (pools-small (B .constraint j) (p .fields .constraints j l))) (w .ready .shared j l);
-          region = λ k l g m d. halves-within (B .contract k .id) g _ (halves-small (B .contract k .payment) _ (p .fields .contracts k l .payment) (p .fields .contracts k l .factor g m)) (w .payable k l .ace g m d) (w .payable k l .asoe g m d);
+          contingency = λ j l. contingency-within (B .constraint j) (p .sound .fields .constraints j l .cost) (w .ready .shared j l);
+          units = λ j l u m. unit-within (B .constraint j) (poolsOf (B .constraint j)) (B .unit u) (pools-small (B .constraint j) (p .sound .fields .constraints j l)) (p .sound .fields .units u m);
+          rest = λ j l. rest-within (B .constraint j) _ (residual-small (B .constraint j) (poolsOf (B .constraint j)) (p .sound .fields .constraints j l) (pools-small (B .constraint j) (p .sound .fields .constraints j l))) (w .ready .shared j l);
+          region = λ k l g m d. halves-within (B .contract k .id) g _ (halves-small (B .contract k .payment) _ (p .sound .fields .contracts k l .payment) (p .sound .fields .contracts k l .factor g m)) (w .payable k l .ace g m d) (w .payable k l .asoe g m d);
         }
 
     -- the test on the pools says of the lines what the table asks

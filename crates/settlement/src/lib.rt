@@ -113,7 +113,7 @@ fn settle(book: &[u8], h: Header, account: u32, buffer: &mut [u8]) -> Written
 pub fn statement(book: &[u8], account: u32, buffer: &mut [u8]) -> Written
     ensures { λ r. ⌜ Lent (outcome (now (book .entry)) account) (now (buffer .entry)) r (now (buffer .exit)) ⌝ }
 {
-    if let Verdict::Refused(number, place) = book::check(book) {
+    if let Verdict::Refused(number, place) = verdict::check(book) {
         return Written::Refused(number, place);
     }
     settle(book, header::header_of(book), account, buffer)

@@ -5,7 +5,7 @@ ghost use Prim.Native.Nat.{ℕ, _*_, _≤_, _<_};
 ghost use lib.ListN.{length};
 ghost use Rattle.sections.specs.Search.{some};
 ghost use Rattle.records.specs.Rows.{constraintRow, contractRow};
-ghost use Rattle.records.specs.Inner.Facts.{ConstraintRule};
+ghost use Rattle.rules.specs.Inner.Facts.{ConstraintRule};
 ghost use Rattle.book.specs.Book.{bookIn};
 ghost use Rattle.book.specs.Inner.Facts.{Laid};
 ghost use Rattle.book.specs.Inner.Accepted.{Promise};

@@ -18,8 +18,8 @@ use Rattle.statement.specs.declared.Heading.{Heading}
 use Rattle.statement.specs.declared.Written.{Written}
 use Rattle.statement.specs.declared.Written.the-variants.{Length, Refused}
 use Rattle.statement.proofs.Lent.{lent-front}
-use Rattle.reading.specs.Reading.{headingAt, headingOk, linesIn, statementMarked, headed, isStatement}
-use Rattle.reading.proofs.Whole.{headed-length}
+use Rattle.parsing.specs.Parsing.{headingAt, headingOk, linesIn, statementMarked, headed, isStatement}
+use Rattle.parsing.proofs.Whole.{headed-length}
 use Rattle.reading.proofs.Ends.{statement-long, statement-headed}
 use Rattle.settlement.specs.Settle.{outcome}
 use Rattle.trips.proofs.Trip.{written-and-read}

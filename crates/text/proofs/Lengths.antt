@@ -14,7 +14,7 @@ use Rattle.ground.proofs.Back.{u16-small, u32-small, u64-small}
 use Rattle.decimal.specs.Decimal.{decimalOf}
 use Rattle.decimal.proofs.Spelling.{few-digits}
 use Rattle.decimal.proofs.Rooms.{Space, space-front, dollars-short}
-use Rattle.reading.specs.Reading.{headingAt, lineFrom, lineAt, linesIn}
+use Rattle.parsing.specs.Parsing.{headingAt, lineFrom, lineAt, linesIn}
 use Rattle.statement.specs.declared.Line.{Line}
 use Rattle.text.specs.Listing.{refusalPieces, refusalText, headingText, lineText, linesText}
 use Rattle.text.specs.Inner.Said.{Said}

@@ -9,8 +9,8 @@ use Rattle.ground.specs.Bytes.{AreBytes}
 use Rattle.ground.specs.Inner.Put.{Wrote}
 use Rattle.ground.proofs.Put.{wrote-length}
 use Rattle.statement.specs.declared.Line.{Line}
-use Rattle.reading.specs.Reading.{lineAt, linesIn}
-use Rattle.reading.proofs.Laid.{Pieces}
+use Rattle.parsing.specs.Parsing.{lineAt, linesIn}
+use Rattle.parsing.proofs.Laid.{Pieces}
 use Rattle.text.specs.Listing.{lineText, linesText}
 use Rattle.text.proofs.Lengths.{text-more, line-short, lines-short}
 

@@ -11,7 +11,7 @@ use Rattle.decimal.specs.Decimal.{inRow, decimalOf, namedText, dollarsOf}
 use Rattle.statement.specs.Lent.{Outcome, refuses, gives}
 use Rattle.statement.specs.declared.Heading.{Heading}
 use Rattle.statement.specs.declared.Line.{Line}
-use Rattle.reading.specs.Reading.{headingAt, linesIn}
+use Rattle.parsing.specs.Parsing.{headingAt, linesIn}
 use Rattle.settlement.specs.Settle.{outcome}
 
 -- ---- words, by their bytes

@@ -5,7 +5,7 @@ ghost use mathlib.Core.Bool.{true};
 ghost use Prim.Native.Nat.{_+_, _*_, _≤_};
 ghost use lib.ListN.{length};
 ghost use Rattle.ground.specs.Inner.Put.{Wrote};
-ghost use Rattle.reading.specs.Reading.{headingAt, linesIn, isStatement};
+ghost use Rattle.parsing.specs.Parsing.{headingAt, linesIn, isStatement};
 ghost use Rattle.settlement.specs.Settle.{outcome};
 ghost use Rattle.text.specs.Inner.Said.{Said};
 ghost use Rattle.text.specs.Listing.{refusalText, headingText, lineText, linesText, statementText, outcomeText, listingOf};
@@ -59,7 +59,7 @@ fn put_lines(text: &mut [u8], at: usize, s: &[u8], n: usize) -> usize
     let mut e = at;
     let mut i = 0;
     while i < n {
-        e = put_line(text, e, reading::line_at(s, i));
+        e = put_line(text, e, parsing::line_at(s, i));
         i += 1;
     }
     e
@@ -71,7 +71,7 @@ pub fn put_statement(text: &mut [u8], s: &[u8]) -> usize
     requires { ⌜ 114_128 ≤ length (now text) ⌝ }
     ensures { λ r. ⌜ Said (now (text .entry)) (statementText (headingAt (now (s .entry))) (linesIn (now (s .entry)) (headingAt (now (s .entry)) .lines))) (now (text .exit)) r ⌝ }
 {
-    let h = reading::heading_at(s);
+    let h = parsing::heading_at(s);
     let lines = h.lines as usize;
     let e = put_heading(text, h);
     put_lines(text, e, s, lines)

@@ -13,7 +13,7 @@ use Rattle.sections.specs.Total.{totalOf}
 use Rattle.sections.specs.declared.Checked.the-variants.{Good}
 use Rattle.sections.proofs.First.{first-each}
 use Rattle.sections.proofs.Search.{all-each}
-use Rattle.records.specs.Rules.{factorOf}
+use Rattle.rules.specs.Rules.{factorOf}
 use Rattle.records.specs.declared.rows.Entry.{Entry}
 use Rattle.records.specs.declared.rows.Constraint.{Constraint}
 use Rattle.records.specs.declared.rows.EnergyRow.{EnergyRow}

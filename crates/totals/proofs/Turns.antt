@@ -10,7 +10,7 @@ use lib.Seq.{ext-getD}
 use Rattle.sections.proofs.Total.{total-same}
 use Rattle.sections.proofs.Groups.{split-none, split-more, split-bound}
 use Rattle.market.specs.Kinds.{raises, regulates, bitSet}
-use Rattle.records.specs.Inner.Facts.{EntryRule, EnergyRule}
+use Rattle.rules.specs.Inner.Facts.{EntryRule, EnergyRule}
 use Rattle.records.specs.declared.rows.Entry.{Entry}
 use Rattle.records.specs.declared.rows.Constraint.{Constraint}
 use Rattle.records.specs.declared.rows.EnergyRow.{EnergyRow}

@@ -5,7 +5,7 @@ use lib.Dec.{eqb}
 use Rattle.sections.specs.Search.{all}
 use Rattle.sections.specs.Total.{total}
 use Rattle.market.specs.Kinds.{raises, regulates, bitSet}
-use Rattle.records.specs.Rules.{factorOf}
+use Rattle.rules.specs.Rules.{factorOf}
 use Rattle.records.specs.declared.rows.Entry.{Entry}
 use Rattle.records.specs.declared.rows.Constraint.{Constraint}
 use Rattle.records.specs.declared.rows.Contract.{Contract}

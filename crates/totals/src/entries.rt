@@ -5,7 +5,7 @@ ghost use lib.ListN.{length, getD, set};
 ghost use Rattle.ground.specs.Units.{moneyLimit};
 ghost use Rattle.sections.specs.First.{firstBad};
 ghost use Rattle.records.specs.Rows.{entryRow, energyRow};
-ghost use Rattle.records.specs.Inner.Facts.{EnergyRule};
+ghost use Rattle.rules.specs.Inner.Facts.{EnergyRule};
 ghost use Rattle.totals.specs.Sums.{entryIs, entryHasSums};
 ghost use Rattle.totals.specs.Inner.Turns.{TotalsOf};
 use market::Region;

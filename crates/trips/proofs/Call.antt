@@ -105,8 +105,8 @@ module _ (B : Book) (p : Promise B) (account : ℕ) (known : unknown (rowsOfAcco
   unfolding rowsOfAccount
   account-low =
       ⊎-elim
-      (named-low (B .unit) (B .header .units) (λ r. r .account) account (λ i l. p .fields .units i l .account))
-      (named-low (B .energy) (B .header .energies) (λ r. r .account) account (λ i l. p .fields .energies i l .account))
+      (named-low (B .unit) (B .header .units) (λ r. r .account) account (λ i l. p .sound .fields .units i l .account))
+      (named-low (B .energy) (B .header .energies) (λ r. r .account) account (λ i l. p .sound .fields .energies i l .account))
       (one-false (none (rowsOfAccount B account .units)) (none (rowsOfAccount B account .energies)) known)
 
   -- what the walk over the book knows of it

@@ -4,7 +4,7 @@ use mathlib.Core.Path.{_≡_}
 use mathlib.Core.Bool.{false}
 use Rattle.book.specs.Book.{Book}
 use Rattle.statement.specs.declared.Line.{Line}
-use Rattle.reading.specs.Inner.Writable.{WritableLine}
+use Rattle.parsing.specs.Inner.Writable.{WritableLine}
 use Rattle.lines.specs.Limit.{passesLimit}
 
 -- a line that is written and read back where its amount keeps the limit of 12

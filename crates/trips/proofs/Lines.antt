@@ -7,11 +7,11 @@ use native.Mathlib.Omega.{arith}
 use borrow.Author.Tests.{le-leb, ltb-false}
 use lib.Dec.{eqb, leb}
 use lib.IntN.{ℤ, natAbs}
-use Rattle.ground.specs.Round.{roundN}
-use Rattle.ground.specs.Sign.{signed, negative}
+use Rattle.numbers.specs.Round.{roundN}
+use Rattle.numbers.specs.Sign.{signed, negative}
 use Rattle.ground.proofs.Every.{all}
 use Rattle.market.specs.Kinds.{raises}
-use Rattle.records.specs.Inner.Facts.{ConstraintRule}
+use Rattle.rules.specs.Inner.Facts.{ConstraintRule}
 use Rattle.records.specs.declared.rows.Constraint.{Constraint}
 use Rattle.records.specs.declared.rows.UnitRow.{UnitRow}
 use Rattle.amounts.specs.Shares.{byFactor, byEnergy}
@@ -20,7 +20,7 @@ use Rattle.amounts.specs.declared.pools.Residual.{Residual}
 use Rattle.amounts.specs.declared.pools.Halves.{Halves}
 use Rattle.amounts.proofs.Signed.{factor-below, charge-shared}
 use Rattle.statement.specs.declared.Line.{Line}
-use Rattle.reading.specs.Reading.{regionsOk, unitFieldOk, amountOk}
+use Rattle.parsing.specs.Parsing.{regionsOk, unitFieldOk, amountOk}
 use Rattle.lines.specs.Lines.{sharedLine, contingencyLine, fppLine, usedLine, unusedLine, fppRest, usedRest, unusedRest, aceLine, asoeLine}
 use Rattle.trips.proofs.Due.{Due}
 

@@ -7,8 +7,8 @@ use mathlib.Core.List.{List, [], _∷_}
 use lib.Dec.{eqb}
 use Rattle.ground.specs.Inner.Each.{Each}
 use Rattle.ground.proofs.Each.{each-choice}
-use Rattle.records.specs.Rules.{factorOf}
-use Rattle.records.specs.Inner.Facts.{ConstraintRule}
+use Rattle.rules.specs.Rules.{factorOf}
+use Rattle.rules.specs.Inner.Facts.{ConstraintRule}
 use Rattle.records.specs.declared.rows.Constraint.{Constraint}
 use Rattle.records.specs.declared.rows.UnitRow.{UnitRow}
 use Rattle.totals.specs.declared.entries.Totals.{Totals}
@@ -18,7 +18,7 @@ use Rattle.amounts.specs.Pools.{halvesOf}
 use Rattle.amounts.specs.declared.pools.Pools.{Pools}
 use Rattle.amounts.specs.declared.pools.Residual.{Residual}
 use Rattle.statement.specs.declared.Line.{Line}
-use Rattle.reading.specs.Inner.Writable.{WritableLine}
+use Rattle.parsing.specs.Inner.Writable.{WritableLine}
 use Rattle.lines.specs.Lines.{unitLines, restLines}
 use Rattle.lines.specs.Limit.{passesLimit, anyOver}
 use Rattle.walk.specs.Inner.Walks.{bookLines}
@@ -49,12 +49,12 @@ module _ (B : Book) (p : Promise B) (n : Narrow B) (own : Totals) where
   kinds-due : EachKind Due B own
   kinds-due =
       record {
-        contingency = λ j l. contingency-due (B .constraint j) (p .fields .constraints j l) (n .constraints j) _ _;
-        units = λ j l u m. unit-due (B .constraint j) (p .fields .constraints j l) (n .constraints j) _ (B .unit u) (p .fields .units u m .unit) (n .units u);
-        rest = λ j l. rest-due (B .constraint j) (p .fields .constraints j l) (n .constraints j) _ _ _;
+        contingency = λ j l. contingency-due (B .constraint j) (p .sound .fields .constraints j l) (n .constraints j) _ _;
+        units = λ j l u m. unit-due (B .constraint j) (p .sound .fields .constraints j l) (n .constraints j) _ (B .unit u) (p .sound .fields .units u m .unit) (n .units u);
+        rest = λ j l. rest-due (B .constraint j) (p .sound .fields .constraints j l) (n .constraints j) _ _ _;
         region = λ k l g m d. (
-          ace-due (B .contract k .id) (p .fields .contracts k l .id) (n .contracts k) g m (halvesOf (B .contract k .payment) (factorOf (B .contract k .factors) g)) _ _,
-          (asoe-due (B .contract k .id) (p .fields .contracts k l .id) (n .contracts k) g m (halvesOf (B .contract k .payment) (factorOf (B .contract k .factors) g)) _ _, tt),
+          ace-due (B .contract k .id) (p .sound .fields .contracts k l .id) (n .contracts k) g m (halvesOf (B .contract k .payment) (factorOf (B .contract k .factors) g)) _ _,
+          (asoe-due (B .contract k .id) (p .sound .fields .contracts k l .id) (n .contracts k) g m (halvesOf (B .contract k .payment) (factorOf (B .contract k .factors) g)) _ _, tt),
         );
       }
 

@@ -17,9 +17,9 @@ use Rattle.accounts.specs.Account.{Public, Rows, publicOf, rowsOfAccount}
 use Rattle.statement.specs.Statement.{statementBytes}
 use Rattle.statement.specs.Lent.{gives}
 use Rattle.statement.specs.declared.Heading.{Heading}
-use Rattle.reading.specs.Reading.{headingAt, linesIn}
-use Rattle.reading.specs.Inner.Writable.{WritableHeading, WritableLine}
-use Rattle.reading.proofs.Written.{heading-back, lines-back, written-accepted}
+use Rattle.parsing.specs.Parsing.{headingAt, linesIn}
+use Rattle.parsing.specs.Inner.Writable.{WritableHeading, WritableLine}
+use Rattle.parsing.proofs.Written.{heading-back, lines-back, written-accepted}
 use Rattle.settlement.specs.Settle.{linesOf, headingOf, statementOf, outcome}
 use Rattle.trips.specs.ReadBack.{ReadBack}
 use Rattle.trips.proofs.Lists.{book-due, due-written}
@@ -32,7 +32,7 @@ heading-written B p account n low small few =
     record {
       ok =
           all (isPeriod (B .header .interval) (B .header .date) (B .header .run) ∷ leb n 2152 ∷ leb 1 account ∷ [])
-          (p .period, (le-leb n 2152 few, (le-leb 1 account low, tt)));
+          (p .sound .period, (le-leb n 2152 few, (le-leb 1 account low, tt)));
       account = small;
       count = refl;
     }

@@ -5,7 +5,7 @@ use mathlib.Core.Bool.{true}
 use mathlib.Core.List.{List}
 use lib.ListN.{length}
 use Rattle.accounts.specs.Account.{Public, Rows}
-use Rattle.reading.specs.Reading.{headingAt, linesIn, isStatement}
+use Rattle.parsing.specs.Parsing.{headingAt, linesIn, isStatement}
 use Rattle.settlement.specs.Settle.{linesOf, headingOf}
 
 -- xs are the bytes of the statement of an account, from the public part of a book and the account's own rows

@@ -10,10 +10,10 @@ use Rattle.ground.specs.Put.{put}
 use Rattle.statement.specs.Lent.{Lent}
 use Rattle.statement.specs.declared.Heading.{Heading}
 use Rattle.statement.specs.declared.Written.the-variants.{Length, Refused}
-use Rattle.reading.specs.Reading.{headingAt, linesIn, isStatement}
-use Rattle.reading.proofs.Whole.{headed-long}
+use Rattle.parsing.specs.Parsing.{headingAt, linesIn, isStatement}
+use Rattle.parsing.proofs.Whole.{headed-long}
 use Rattle.reading.proofs.Ends.{statement-headed, not-written, no-room, all-written}
-use Rattle.reading.proofs.Laid.{laid-length}
+use Rattle.parsing.proofs.Laid.{laid-length}
 use Rattle.unpacking.specs.Unpacking.{allFields, unpacked}
 use Rattle.unpacking.proofs.Fields.{fields-length, fields-pieces}
 

@@ -4,7 +4,7 @@ use mathlib.Core.List.{List, [], _∷_, _++_, append-assoc, append-nil}
 use lib.ListN.{length}
 use Rattle.ground.specs.Le.{le64, int64}
 use Rattle.statement.specs.declared.Line.{Line}
-use Rattle.reading.proofs.Laid.{Pieces}
+use Rattle.parsing.proofs.Laid.{Pieces}
 use Rattle.unpacking.specs.Unpacking.{fieldsBytes, allFields}
 
 pub fields-length : (x : Line) → length (fieldsBytes x) ≡ 40

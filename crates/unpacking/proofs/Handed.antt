@@ -17,8 +17,8 @@ use Rattle.ground.specs.Le.{le64, int64}
 use Rattle.ground.proofs.Part.{part-between, part-u64}
 use Rattle.ground.proofs.Back.{u64-stands, u32-small, u64-small}
 use Rattle.statement.specs.declared.Line.{Line}
-use Rattle.reading.specs.Reading.{lineFrom, lineAt, linesIn}
-use Rattle.reading.proofs.Laid.{laid-length}
+use Rattle.parsing.specs.Parsing.{lineFrom, lineAt, linesIn}
+use Rattle.parsing.proofs.Laid.{laid-length}
 use Rattle.unpacking.specs.Unpacking.{fieldsBytes, allFields}
 use Rattle.unpacking.proofs.Fields.{fields-length, fields-pieces}
 

@@ -5,7 +5,7 @@ use mathlib.Core.List.{List, [], _∷_, _++_}
 use Rattle.ground.specs.Le.{le64, int64}
 use Rattle.statement.specs.Lent.{Outcome}
 use Rattle.statement.specs.declared.Line.{Line}
-use Rattle.reading.specs.Reading.{headingAt, linesIn}
+use Rattle.parsing.specs.Parsing.{headingAt, linesIn}
 use Rattle.reading.specs.Calls.{ifStatement}
 
 -- a line: its five numbers in 64 bits each, 40 bytes

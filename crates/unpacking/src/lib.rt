@@ -3,7 +3,7 @@ ghost use mathlib.Core.Path.{_≡_};
 ghost use Prim.Native.Nat.{_+_, _*_, _≤_};
 ghost use lib.ListN.{length};
 ghost use Rattle.ground.specs.Put.{put};
-ghost use Rattle.reading.specs.Reading.{linesIn};
+ghost use Rattle.parsing.specs.Parsing.{linesIn};
 ghost use Rattle.statement.specs.Lent.{Lent};
 ghost use Rattle.unpacking.specs.Unpacking.{fieldsBytes, allFields, unpacked};
 use ground::write;
@@ -29,7 +29,7 @@ fn put_lines(buffer: &mut [u8], s: &[u8], n: usize)
 {
     let mut i = 0;
     while i < n {
-        put_fields(buffer, i * 40, reading::line_at(s, i));
+        put_fields(buffer, i * 40, parsing::line_at(s, i));
         i += 1;
     }
 }
@@ -38,10 +38,10 @@ fn put_lines(buffer: &mut [u8], s: &[u8], n: usize)
 pub fn unpack(s: &[u8], buffer: &mut [u8]) -> Written
     ensures { λ r. ⌜ Lent (unpacked (now (s .entry))) (now (buffer .entry)) r (now (buffer .exit)) ⌝ }
 {
-    if !reading::is_statement(s) {
+    if !parsing::is_statement(s) {
         return Written::Refused(14, 0);
     }
-    let lines = reading::heading_at(s).lines as usize;
+    let lines = parsing::heading_at(s).lines as usize;
     if buffer.len() < lines * 40 {
         return Written::Refused(13, 0);
     }

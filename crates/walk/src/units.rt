@@ -3,7 +3,7 @@ ghost use Prim.Native.Nat.{_*_, _≤_};
 ghost use lib.ListN.{length};
 ghost use Rattle.sections.specs.Inner.Walk.{Stands};
 ghost use Rattle.records.specs.Rows.{unitRow};
-ghost use Rattle.records.specs.Inner.Facts.{UnitRule};
+ghost use Rattle.rules.specs.Inner.Facts.{UnitRule};
 ghost use Rattle.factors.specs.Naming.{keyOf};
 ghost use Rattle.factors.specs.Inner.Runs.{Walked};
 ghost use Rattle.totals.specs.Divisors.{overRegions};

@@ -267,7 +267,7 @@ const OTHERS_CHANGED: [Change; 11] = [
         of.append("crates/listing/src/main.rt", "")
     }),
     ("a crate that is not below it", |of| {
-        of.append("crates/demands/src/lib.rt", "// more\n")
+        of.append("crates/asked/src/lib.rt", "// more\n")
     }),
     ("the library", |of| {
         of.append("crates/fervolatro/src/lib.rt", "// more\n")

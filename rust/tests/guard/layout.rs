@@ -22,9 +22,9 @@ struct Record {
     size_of: Option<&'static str>,
 }
 
-const CHECKS: &str = "crates/records/specs/Inner/Checks.antt";
+const CHECKS: &str = "crates/rules/specs/Inner/Checks.antt";
 const ROWS: &str = "crates/records/specs/Rows.antt";
-const READING: &str = "crates/reading/specs/Reading.antt";
+const READING: &str = "crates/parsing/specs/Parsing.antt";
 const BOOK: &str = "crates/book/specs/Header.antt";
 const UNITS: &str = "crates/ground/specs/Units.antt";
 
@@ -35,7 +35,7 @@ const RULES: [&str; 6] = [
     UNITS,
     "crates/calendar/specs/Calendar.antt",
     "crates/market/specs/Kinds.antt",
-    "crates/records/specs/Rules.antt",
+    "crates/rules/specs/Rules.antt",
 ];
 
 const RECORDS: [Record; 8] = [

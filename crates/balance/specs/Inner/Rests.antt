@@ -5,10 +5,10 @@ use mathlib.Core.Bool.{cond}
 use mathlib.Core.List.{List}
 use lib.Dec.{eqb}
 use lib.ListN.{length, getD}
-use Rattle.ground.specs.Round.{roundN}
+use Rattle.numbers.specs.Round.{roundN}
 use Rattle.ground.specs.Units.{moneyLimit, totalLimit}
 use Rattle.sections.specs.Total.{total}
-use Rattle.records.specs.Rules.{factorOf}
+use Rattle.rules.specs.Rules.{factorOf}
 use Rattle.records.specs.declared.rows.Constraint.{Constraint}
 use Rattle.records.specs.declared.rows.Contract.{Contract}
 use Rattle.records.specs.declared.rows.EnergyRow.{EnergyRow}

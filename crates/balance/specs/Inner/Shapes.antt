@@ -5,12 +5,12 @@ use mathlib.Core.Bool.{Bool, false, not, cond}
 use lib.Dec.{eqb}
 use lib.IntN.{pos}
 use lib.ListN.{length}
-use Rattle.ground.specs.Round.{roundN}
-use Rattle.ground.specs.Sign.{less}
+use Rattle.numbers.specs.Round.{roundN}
+use Rattle.numbers.specs.Sign.{less}
 use Rattle.ground.specs.Units.{million}
 use Rattle.sections.specs.Total.{total}
 use Rattle.market.specs.Kinds.{raises, regulates}
-use Rattle.records.specs.Rules.{factorOf}
+use Rattle.rules.specs.Rules.{factorOf}
 use Rattle.records.specs.declared.rows.Entry.{Entry}
 use Rattle.records.specs.declared.rows.Constraint.{Constraint}
 use Rattle.records.specs.declared.rows.UnitRow.{UnitRow}
@@ -21,10 +21,10 @@ use Rattle.book.specs.Book.{Book}
 use Rattle.amounts.specs.Pools.{poolsOf, residualPools, halvesOf}
 use Rattle.amounts.specs.declared.pools.Pools.{Pools}
 use Rattle.amounts.specs.declared.pools.Residual.{Residual}
-use Rattle.parties.specs.Inner.Shares.{partSum}
-use Rattle.parties.specs.declared.shares.Basis.{Basis}
-use Rattle.parties.specs.declared.shares.Basis.the-variants as basis
-use Rattle.parties.specs.declared.shares.Part.{Part}
+use Rattle.sharing.specs.Inner.Shares.{partSum}
+use Rattle.sharing.specs.declared.shares.Basis.{Basis}
+use Rattle.sharing.specs.declared.shares.Basis.the-variants as basis
+use Rattle.sharing.specs.declared.shares.Part.{Part}
 use Rattle.balance.specs.Pools.{recovers, benefiting}
 use Rattle.balance.specs.Balance.{accountsOf}
 use Rattle.balance.specs.declared.Balance.{Balance}

@@ -1,7 +1,7 @@
 -- The sums over a constraint's unit rows, row by row. Only contracts of inner functions speak of these.
 use Prim.Native.Nat.{ℕ, _+_, _*_, _≤_}
 use mathlib.Core.Path.{_≡_}
-use Rattle.ground.specs.Round.{roundN}
+use Rattle.numbers.specs.Round.{roundN}
 use Rattle.ground.specs.Units.{million, moneyLimit}
 use Rattle.records.specs.declared.rows.UnitRow.{UnitRow}
 use Rattle.balance.specs.Inner.Shapes.{aboveBy, belowBy, unitRows, unitCredit, unitCharge}

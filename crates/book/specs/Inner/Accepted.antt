@@ -7,7 +7,7 @@ use lib.Dec.{eqb}
 use lib.ListN.{length}
 use Rattle.sections.specs.Total.{total, totalOf}
 use Rattle.calendar.specs.Calendar.{isPeriod}
-use Rattle.records.specs.Rules.{factorOf}
+use Rattle.rules.specs.Rules.{factorOf}
 use Rattle.records.specs.declared.rows.Entry.{Entry}
 use Rattle.records.specs.declared.rows.UnitRow.{UnitRow}
 use Rattle.records.specs.declared.rows.EnergyRow.{EnergyRow}

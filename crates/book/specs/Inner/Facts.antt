@@ -5,7 +5,7 @@ use mathlib.Core.List.{List}
 use lib.ListN.{length}
 use Rattle.sections.specs.Inner.Order.{Rises, PairsRise}
 use Rattle.sections.specs.Inner.Walk.{Names}
-use Rattle.records.specs.Inner.Facts.{EntryRule, ConstraintRule, UnitRule, EnergyRule, ContractRule}
+use Rattle.rules.specs.Inner.Facts.{EntryRule, ConstraintRule, UnitRule, EnergyRule, ContractRule}
 use Rattle.factors.specs.Naming.{idOf, keyOf}
 use Rattle.book.specs.declared.header.Header.{Header}
 use Rattle.book.specs.Header.{wholeLength}

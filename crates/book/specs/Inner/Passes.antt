@@ -7,7 +7,7 @@ use Rattle.sections.specs.Order.{risesBy}
 use Rattle.sections.specs.Refusal.{atRecord}
 use Rattle.sections.specs.declared.Verdict.{Verdict}
 use Rattle.sections.specs.declared.Verdict.the-variants.{Accepted, Refused}
-use Rattle.records.specs.Rules.{entryOk, constraintOk, contractOk, constraintBelow, contractBelow}
+use Rattle.rules.specs.Rules.{entryOk, constraintOk, contractOk, constraintBelow, contractBelow}
 use Rattle.book.specs.Header.{contractsFrom}
 use Rattle.book.specs.Book.{Book}
 

@@ -3,7 +3,7 @@ use mathlib.Core.Path.{ap, _∙_}
 use lib.IntN.{natAbs}
 use mir.Facts.{toZ-ofZ}
 use borrow.Author.Needs.{needs}
-use Rattle.ground.specs.Sign.{negative}
+use Rattle.numbers.specs.Sign.{negative}
 use Rattle.ground.proofs.Put.{wrote-more}
 use Rattle.decimal.proofs.Rooms.{space-first, space-rest, last-room, dollars-space, wrote-dollars}
 use Rattle.decimal.proofs.put_dollars.Statement.{statement}

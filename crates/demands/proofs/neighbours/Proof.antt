@@ -1,4 +1,4 @@
--- `demands::neighbours` meets its contract: the demands' theorems, of what the call promises. Each element of a lent slice is a byte. Assumes nothing.
+-- `asked::neighbours` meets its contract: the demands' theorems, of what the call promises. Each element of a lent slice is a byte. Assumes nothing.
 use borrow.Author.Needs.{needs}
 use Rattle.demands.proofs.Demand3.{no-neighbours-figure}
 use Rattle.demands.proofs.neighbours.Statement.{statement}

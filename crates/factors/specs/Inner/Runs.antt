@@ -3,7 +3,7 @@ use Prim.Native.Nat.{ℕ, _+_, _≤_, _<_}
 use mathlib.Core.Path.{_≡_}
 use Rattle.sections.specs.Inner.Order.{Keeps}
 use Rattle.sections.specs.Inner.Walk.{Past}
-use Rattle.records.specs.Inner.Facts.{UnitRule}
+use Rattle.rules.specs.Inner.Facts.{UnitRule}
 use Rattle.records.specs.declared.rows.UnitRow.{UnitRow}
 use Rattle.factors.specs.declared.sums.Sums.{Sums}
 use Rattle.factors.specs.Naming.{keyOf}

@@ -5,7 +5,7 @@ use mathlib.Core.Bool.{Bool, true, false, _&&_}
 use lib.Dec.{eqb, leb, ltb}
 use lib.ListN.{getD, set}
 use Rattle.sections.specs.Order.{risesBy}
-use Rattle.records.specs.Rules.{energyBelow}
+use Rattle.rules.specs.Rules.{energyBelow}
 use Rattle.records.specs.declared.rows.EnergyRow.{EnergyRow}
 use Rattle.totals.specs.Inner.Turns.{TotalsOf}
 use Rattle.totals.specs.declared.entries.Totals.{Totals}

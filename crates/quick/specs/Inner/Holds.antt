@@ -3,7 +3,7 @@ use Prim.Native.Nat.{ℕ}
 use mathlib.Core.Bool.{Bool, _&&_}
 use Rattle.sections.specs.Order.{risesBy}
 use Rattle.sections.specs.Search.{all}
-use Rattle.records.specs.Rules.{unitOk, energyOk, unitBelow, energyBelow}
+use Rattle.rules.specs.Rules.{unitOk, energyOk, unitBelow, energyBelow}
 use Rattle.records.specs.declared.rows.Entry.{Entry}
 use Rattle.records.specs.declared.rows.Constraint.{Constraint}
 use Rattle.records.specs.declared.rows.UnitRow.{UnitRow}

@@ -5,7 +5,7 @@ use mathlib.Core.Bool.{Bool, true, _&&_, _||_, not}
 use lib.Dec.{eqb, leb, ltb}
 use Rattle.ground.specs.Units.{million}
 use Rattle.sections.specs.Order.{risesBy}
-use Rattle.records.specs.Rules.{unitBelow}
+use Rattle.rules.specs.Rules.{unitBelow}
 use Rattle.records.specs.declared.rows.Constraint.{Constraint}
 use Rattle.records.specs.declared.rows.UnitRow.{UnitRow}
 use Rattle.factors.specs.Factors.{sumOver}

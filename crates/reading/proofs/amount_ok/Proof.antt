@@ -1,4 +1,4 @@
--- `reading::amount_ok` meets its contract. The tests are those of the definition. Assumes nothing.
+-- `parsing::amount_ok` meets its contract. The tests are those of the definition. Assumes nothing.
 use mir.Facts.{toZ-ofZ}
 use borrow.Author.Needs.{needs}
 use Rattle.reading.proofs.amount_ok.Statement.{statement}

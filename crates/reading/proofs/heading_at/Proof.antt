@@ -1,4 +1,4 @@
--- `reading::heading_at` meets its contract. Each field is read where it stands, so the header is the one of the bytes. Assumes nothing.
+-- `parsing::heading_at` meets its contract. Each field is read where it stands, so the header is the one of the bytes. Assumes nothing.
 use borrow.Author.Needs.{needs}
 use Rattle.reading.proofs.Read.{heading-is}
 use Rattle.reading.proofs.heading_at.Statement.{statement}

@@ -1,4 +1,4 @@
--- `reading::heading_ok` meets its contract. The tests are those of the definition. Assumes nothing.
+-- `parsing::heading_ok` meets its contract. The tests are those of the definition. Assumes nothing.
 use borrow.Author.Needs.{needs}
 use Rattle.reading.proofs.heading_ok.Statement.{statement}
 use Rattle.reading.proofs.heading_ok.Tie as tie

@@ -1,4 +1,4 @@
--- `reading::is_headed` meets its contract. The tests are those of the definition. Assumes nothing.
+-- `parsing::is_headed` meets its contract. The tests are those of the definition. Assumes nothing.
 use borrow.Author.Needs.{needs}
 use Rattle.reading.specs.Reading.{headed}
 use Rattle.reading.proofs.is_headed.Statement.{statement}

@@ -1,4 +1,4 @@
--- `reading::is_marked` meets its contract. The tests are those of the definition. Assumes nothing.
+-- `parsing::is_marked` meets its contract. The tests are those of the definition. Assumes nothing.
 use borrow.Author.Needs.{needs}
 use Rattle.reading.proofs.is_marked.Statement.{statement}
 use Rattle.reading.proofs.is_marked.Tie as tie

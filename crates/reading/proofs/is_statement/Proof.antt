@@ -1,4 +1,4 @@
--- `reading::is_statement` meets its contract. Each end is a law of `Whole`. Assumes nothing.
+-- `parsing::is_statement` meets its contract. Each end is a law of `Whole`. Assumes nothing.
 use native.Mathlib.Omega.{arith}
 use borrow.Author.Needs.{needs}
 use Rattle.reading.proofs.Whole.{too-short, not-headed, lines-decide, lines-lie}

@@ -1,4 +1,4 @@
--- `reading::line_at` meets its contract. Each field is read where it stands, so the line is the one at its place. Assumes nothing.
+-- `parsing::line_at` meets its contract. Each field is read where it stands, so the line is the one at its place. Assumes nothing.
 use borrow.Author.Needs.{needs}
 use Rattle.reading.proofs.Read.{line-is}
 use Rattle.reading.proofs.line_at.Statement.{statement}

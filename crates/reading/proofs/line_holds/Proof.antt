@@ -1,4 +1,4 @@
--- `reading::line_holds` meets its contract. The tests are those of the definition. Assumes nothing.
+-- `parsing::line_holds` meets its contract. The tests are those of the definition. Assumes nothing.
 use borrow.Author.Needs.{needs}
 use Rattle.reading.specs.Reading.{lineHolds}
 use Rattle.reading.proofs.line_holds.Statement.{statement}

@@ -1,4 +1,4 @@
--- `reading::line_ok` meets its contract. The tests are those of the definition. Assumes nothing.
+-- `parsing::line_ok` meets its contract. The tests are those of the definition. Assumes nothing.
 use mir.Syntax.{w64}
 use mir.Facts.{toZ-ofZ}
 use borrow.Author.Needs.{needs, sfits-of}

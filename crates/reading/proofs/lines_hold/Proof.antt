@@ -1,4 +1,4 @@
--- `reading::lines_hold` meets its contract. The invariant: whether every line so far holds. The measure is what is left. Assumes nothing.
+-- `parsing::lines_hold` meets its contract. The invariant: whether every line so far holds. The measure is what is left. Assumes nothing.
 use Prim.Native.Nat.{_≤_, _-_}
 use mathlib.Core.Path.{_≡_}
 use borrow.Author.Needs.{needs}

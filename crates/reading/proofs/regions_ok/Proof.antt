@@ -1,4 +1,4 @@
--- `reading::regions_ok` meets its contract. The tests are those of the definition. Assumes nothing.
+-- `parsing::regions_ok` meets its contract. The tests are those of the definition. Assumes nothing.
 use borrow.Author.Needs.{needs}
 use Rattle.reading.proofs.regions_ok.Statement.{statement}
 use Rattle.reading.proofs.regions_ok.Tie as tie

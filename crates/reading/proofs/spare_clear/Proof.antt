@@ -1,4 +1,4 @@
--- `reading::spare_clear` meets its contract. The tests are those of the definition. Assumes nothing.
+-- `parsing::spare_clear` meets its contract. The tests are those of the definition. Assumes nothing.
 use borrow.Author.Needs.{needs}
 use Rattle.reading.proofs.spare_clear.Statement.{statement}
 use Rattle.reading.proofs.spare_clear.Tie as tie

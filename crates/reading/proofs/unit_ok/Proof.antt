@@ -1,4 +1,4 @@
--- `reading::unit_ok` meets its contract. Each branch is one of the definition. Assumes nothing.
+-- `parsing::unit_ok` meets its contract. Each branch is one of the definition. Assumes nothing.
 use Rattle.reading.proofs.unit_ok.Statement.{statement}
 use Rattle.reading.proofs.unit_ok.Tie as tie
 

@@ -1,4 +1,4 @@
--- `rewriting::put_lines` meets its contract. The invariant: the first i lines stand behind the header. The measure is what is left. Assumes nothing.
+-- `reading::rewriting::put_lines` meets its contract. The invariant: the first i lines stand behind the header. The measure is what is left. Assumes nothing.
 use Prim.Native.Nat.{_+_, _*_, _-_, _≤_}
 use native.Mathlib.Omega.{arith}
 use borrow.Author.Needs.{needs}
@@ -6,8 +6,8 @@ use Rattle.ground.specs.Inner.Put.{Wrote}
 use Rattle.ground.proofs.Put.{wrote-length}
 use Rattle.statement.specs.Statement.{linesBytes}
 use Rattle.statement.proofs.Lines.{line-length}
-use Rattle.reading.specs.Reading.{linesIn}
-use Rattle.reading.proofs.Laid.{laid-none, laid-more, laid-all}
+use Rattle.parsing.specs.Parsing.{linesIn}
+use Rattle.parsing.proofs.Laid.{laid-none, laid-more, laid-all}
 use Rattle.rewriting.proofs.Pieces.{line-pieces}
 use Rattle.rewriting.proofs.put_lines.Statement.{statement}
 use Rattle.rewriting.proofs.put_lines.Tie as tie

@@ -1,4 +1,4 @@
--- `rewriting::rewrite` meets its contract. Each end is a law of `Ends`. Assumes nothing.
+-- `reading::rewriting::rewrite` meets its contract. Each end is a law of `Ends`. Assumes nothing.
 use native.Mathlib.Omega.{arith}
 use borrow.Author.Needs.{needs}
 use Rattle.reading.proofs.Ends.{header-lies}

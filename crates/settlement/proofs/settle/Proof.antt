@@ -25,7 +25,7 @@ cast-own-energy : tie.Need-cast-own-energy
 cast-own-energy c = search needs
 
 own-energy-requires : tie.Need-own-energy-requires
-own-energy-requires c κs = ((energies-room _ _ (c .before .before .before .before .before .before .pre .0) _ (c .before .before .energies-at .ensures), c .before .before .before .before .before .before .pre .0 .few .energies), (rw (c .before .before .energies-at .ensures) (c .before .before .before .before .before .before .pre .1 .fields .energies), rw (c .before .before .energies-at .ensures) (record { keep = c .before .before .before .before .before .before .pre .1 .ordered .energies .first })))
+own-energy-requires c κs = ((energies-room _ _ (c .before .before .before .before .before .before .pre .0) _ (c .before .before .energies-at .ensures), c .before .before .before .before .before .before .pre .0 .few .energies), (rw (c .before .before .energies-at .ensures) (c .before .before .before .before .before .before .pre .1 .sound .fields .energies), rw (c .before .before .energies-at .ensures) (record { keep = c .before .before .before .before .before .before .pre .1 .sound .ordered .energies .first })))
 
 sub-is-known : tie.Need-sub-is-known
 sub-is-known c = search needs

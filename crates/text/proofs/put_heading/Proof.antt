@@ -1,4 +1,4 @@
--- `text::put_heading` meets its contract: five numbers, each behind its word, and the line feed. Assumes nothing.
+-- `printing::put_heading` meets its contract: five numbers, each behind its word, and the line feed. Assumes nothing.
 use mathlib.Core.Path.{_∙_}
 use borrow.Author.Needs.{needs}
 use Rattle.ground.proofs.Put.{wrote-more, wrote-length}

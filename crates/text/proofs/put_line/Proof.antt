@@ -1,4 +1,4 @@
--- `text::put_line` meets its contract: id, part, regions, unit, dollars and the line feed, each behind the one before. Assumes nothing.
+-- `printing::put_line` meets its contract: id, part, regions, unit, dollars and the line feed, each behind the one before. Assumes nothing.
 use mathlib.Core.Path.{_∙_}
 use mir.Syntax.{w64}
 use mir.Facts.{toZ-ofZ}

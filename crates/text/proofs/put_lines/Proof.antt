@@ -1,9 +1,9 @@
--- `text::put_lines` meets its contract. The invariant: the first i lines stand; none has more than 53 bytes, so that the rest have room. The measure is what is left. Assumes nothing.
+-- `printing::put_lines` meets its contract. The invariant: the first i lines stand; none has more than 53 bytes, so that the rest have room. The measure is what is left. Assumes nothing.
 use Prim.Native.Nat.{_≤_, _-_}
 use native.Mathlib.Omega.{arith}
 use borrow.Author.Needs.{needs}
 use Rattle.ground.proofs.Put.{wrote-length}
-use Rattle.reading.proofs.Laid.{laid-none, laid-more, laid-all}
+use Rattle.parsing.proofs.Laid.{laid-none, laid-more, laid-all}
 use Rattle.text.proofs.Turns.{Listed, text-pieces, listed-room}
 use Rattle.text.proofs.put_lines.Statement.{statement}
 use Rattle.text.proofs.put_lines.Tie as tie

@@ -1,4 +1,4 @@
--- `text::put_refusal` meets its contract: the number, the place and the line feed, each behind the one before. Assumes nothing.
+-- `printing::put_refusal` meets its contract: the number, the place and the line feed, each behind the one before. Assumes nothing.
 use mathlib.Core.Path.{_∙_}
 use borrow.Author.Needs.{needs}
 use Rattle.ground.proofs.Put.{wrote-more, wrote-length}

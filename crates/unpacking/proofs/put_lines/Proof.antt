@@ -4,8 +4,8 @@ use native.Mathlib.Omega.{arith}
 use borrow.Author.Needs.{needs}
 use Rattle.ground.specs.Inner.Put.{Wrote}
 use Rattle.ground.proofs.Put.{wrote-length}
-use Rattle.reading.specs.Reading.{linesIn}
-use Rattle.reading.proofs.Laid.{laid-none, laid-more, laid-all}
+use Rattle.parsing.specs.Parsing.{linesIn}
+use Rattle.parsing.proofs.Laid.{laid-none, laid-more, laid-all}
 use Rattle.unpacking.specs.Unpacking.{allFields}
 use Rattle.unpacking.proofs.Fields.{fields-length, fields-pieces}
 use Rattle.unpacking.proofs.put_lines.Statement.{statement}

@@ -9,8 +9,8 @@ use Rattle.sections.specs.Inner.Order.{Rises}
 use Rattle.sections.specs.Inner.Walk.{Past, Names}
 use Rattle.records.specs.declared.rows.Constraint.{Constraint}
 use Rattle.records.specs.declared.rows.UnitRow.{UnitRow}
-use Rattle.records.specs.Inner.Facts.{EntryRule, ConstraintRule, ContractRule}
-use Rattle.records.specs.Rules.{factorOf}
+use Rattle.rules.specs.Inner.Facts.{EntryRule, ConstraintRule, ContractRule}
+use Rattle.rules.specs.Rules.{factorOf}
 use Rattle.records.specs.declared.rows.Entry.{Entry}
 use Rattle.records.specs.declared.rows.Contract.{Contract}
 use Rattle.factors.specs.Naming.{idOf, keyOf}

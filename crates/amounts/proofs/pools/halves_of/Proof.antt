@@ -4,8 +4,8 @@ use Prim.Native.Nat.{ℕ, _+_, _-_, _/_}
 use mathlib.Core.Path.{_≡_, ap, _∙_}
 use native.Mathlib.Omega.{arith}
 use borrow.Author.Needs.{needs}
-use Rattle.ground.specs.Round.{roundN}
-use Rattle.ground.proofs.Rounding.{round-share}
+use Rattle.numbers.specs.Round.{roundN}
+use Rattle.numbers.proofs.Rounding.{round-share}
 use Rattle.amounts.specs.Pools.{halve, halvesOf}
 use Rattle.amounts.specs.declared.pools.Halves.{Halves}
 use Rattle.amounts.proofs.pools.halves_of.Statement.{statement}

@@ -3,7 +3,7 @@ use mathlib.Core.Path.{_≡_, refl, sym}
 use native.Mathlib.Omega.{arith}
 use borrow.Author.Needs.{needs}
 use Rattle.market.proofs.Modes.{unfactored}
-use Rattle.ground.proofs.Rounding.{round-share}
+use Rattle.numbers.proofs.Rounding.{round-share}
 use Rattle.amounts.proofs.Sizes.{data-in}
 use Rattle.amounts.specs.Pools.{allUnused, poolsByMode}
 use Rattle.amounts.proofs.pools.pools_of.Statement.{statement}

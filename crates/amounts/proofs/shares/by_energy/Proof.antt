@@ -7,8 +7,8 @@ use native.Mathlib.Omega.{arith}
 use mir.Facts.{toZ-ofZ}
 use borrow.Author.Needs.{needs, sfits-of}
 use Rattle.amounts.specs.Shares.{byEnergy}
-use Rattle.ground.proofs.Rounding.{round-share}
-use Rattle.ground.specs.Sign.{signed, less}
+use Rattle.numbers.proofs.Rounding.{round-share}
+use Rattle.numbers.specs.Sign.{signed, less}
 use Rattle.amounts.proofs.Signed.{side-small, side-shared}
 use Rattle.amounts.proofs.shares.by_energy.Statement.{statement}
 use Rattle.amounts.proofs.shares.by_energy.Tie as tie

@@ -4,8 +4,8 @@ use native.Mathlib.Omega.{arith}
 use mir.Facts.{toZ-ofZ}
 use borrow.Author.Needs.{needs, sfits-of}
 use Rattle.amounts.specs.Shares.{byFactor}
-use Rattle.ground.proofs.Rounding.{round-share}
-use Rattle.ground.specs.Sign.{less}
+use Rattle.numbers.proofs.Rounding.{round-share}
+use Rattle.numbers.specs.Sign.{less}
 use Rattle.amounts.proofs.shares.by_factor.Statement.{statement}
 use Rattle.amounts.proofs.shares.by_factor.Tie as tie
 

@@ -7,7 +7,7 @@ use mir.Val.{toZ, ofZ}
 use mir.Syntax.{w64}
 use borrow.Author.Needs.{needs, sfits-of}
 use mathlib.Core.Bool.{true}
-use Rattle.ground.proofs.Signs.{size-signed}
+use Rattle.numbers.proofs.Signs.{size-signed}
 use Rattle.amounts.proofs.shares.net.Statement.{statement}
 use Rattle.amounts.proofs.shares.net.Tie as tie
 

@@ -39,7 +39,7 @@ cast-all-accounts-2 : tie.Need-cast-all-accounts-2
 cast-all-accounts-2 c = search needs
 
 all-accounts-requires : tie.Need-all-accounts-requires
-all-accounts-requires c κs = ((energies-room _ _ (c .before .before .before .before .before .before .before .pre .0) _ (c .before .before .before .before .before .energies-at .ensures), (c .before .before .before .before .before .before .before .pre .1 .few .units, units-room _ _ (c .before .before .before .before .before .before .before .pre .0) _ (c .before .before .before .before .units-at .ensures))), sorted-at (c .before .before .before .before .before .before .before .args .book .now) (c .before .before .before .before .before .before .before .args .h) _ (c .before .before .before .before .before .energies-at .ensures) (c .before .before .before .before .before .before .before .pre .1))
+all-accounts-requires c κs = ((energies-room _ _ (c .before .before .before .before .before .before .before .pre .0) _ (c .before .before .before .before .before .energies-at .ensures), (c .before .before .before .before .before .before .before .pre .1 .sound .few .units, units-room _ _ (c .before .before .before .before .before .before .before .pre .0) _ (c .before .before .before .before .units-at .ensures))), sorted-at (c .before .before .before .before .before .before .before .args .book .now) (c .before .before .before .before .before .before .before .args .h) _ (c .before .before .before .before .before .energies-at .ensures) (c .before .before .before .before .before .before .before .pre .1))
 
 returns : tie.Need-returns
 returns c = counted-is (c .before .before .before .before .before .before .before .before .args .book .now) (c .before .before .before .before .before .before .before .before .args .h) _ (c .before .before .before .before .before .before .energies-at .ensures) _ (c .before .before .before .before .before .units-at .ensures) (c .all-accounts .ensures)

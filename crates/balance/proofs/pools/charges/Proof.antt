@@ -56,7 +56,7 @@ returns : tie.Need-returns Inv-loop μ-loop
 returns c =
     let start = c .before .before .before .before .before .before .before .before .before .before .before .before .before in
     let loop = c .before .before .before .before .before .before .before .before .before .before .before .loop in
-    charges-are (start .args .book .now) (start .args .h) _ (c .before .before .before .before .before .before .before .before .energies-at .ensures) (start .pre .1 .0) (start .args .k) (start .pre .1 .1) (lists-all _ _ _ (loop .inv .1) (loop .inv .0) (omega arith)) (c .pays .ensures)
+    charges-are (start .args .book .now) (start .args .h) _ (c .before .before .before .before .before .before .before .before .energies-at .ensures) (start .pre .1 .0) (start .args .k) (start .pre .1 .1) (lists-all _ _ _ (loop .inv .1) (loop .inv .0) (omega (arith, c .before .before .before .before .before .before .before .before .before .before .loop-test .left))) (c .pays .ensures)
 
 pub charges-spec : {M : Type 1} → statement M
 charges-spec =

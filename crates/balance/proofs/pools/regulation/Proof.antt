@@ -32,7 +32,7 @@ cast-unit-sums : tie.Need-cast-unit-sums
 cast-unit-sums c = search needs
 
 unit-sums-requires : tie.Need-unit-sums-requires
-unit-sums-requires c κs = ((units-room _ _ (c .before .before .before .before .before .pre .0) _ (c .before .before .units-at .ensures), recovery-small _ _ (constraint-rule (c .before .before .before .before .before .pre .1 .0) _ (c .before .before .before .before .before .pre .1 .1 .0)) (c .before .before .before .recovery-of .ensures) .pool), rw (c .before .before .units-at .ensures) (record { few = c .before .before .before .before .before .pre .1 .0 .few .units; rules = c .before .before .before .before .before .pre .1 .0 .fields .units; keep = record { keep = c .before .before .before .before .before .pre .1 .0 .ordered .units .first } }))
+unit-sums-requires c κs = ((units-room _ _ (c .before .before .before .before .before .pre .0) _ (c .before .before .units-at .ensures), recovery-small _ _ (constraint-rule (c .before .before .before .before .before .pre .1 .0) _ (c .before .before .before .before .before .pre .1 .1 .0)) (c .before .before .before .recovery-of .ensures) .pool), rw (c .before .before .units-at .ensures) (record { few = c .before .before .before .before .before .pre .1 .0 .sound .few .units; rules = c .before .before .before .before .before .pre .1 .0 .sound .fields .units; keep = record { keep = c .before .before .before .before .before .pre .1 .0 .sound .ordered .units .first } }))
 
 sub-divisor : tie.Need-sub-divisor
 sub-divisor c = search needs
@@ -56,16 +56,16 @@ signed-requires : tie.Need-signed-requires
 signed-requires c κs = omega (arith, recovery-small _ _ (constraint-rule (c .before .before .before .before .before .before .before .before .before .before .pre .1 .0) _ (c .before .before .before .before .before .before .before .before .before .before .pre .1 .1 .0)) (c .before .before .before .before .before .before .before .before .recovery-of .ensures) .amount)
 
 add-t16 : tie.Need-add-t16
-add-t16 c = omega (arith, c .before .before .before .before .before .before .unit-sums .ensures .few, c .before .before .before .before .before .before .before .before .before .before .before .before .pre .1 .0 .few .units, c .before .before .before .before .before .before .before .before .before .before .before .before .pre .1 .1 .1 .few)
+add-t16 c = omega (arith, c .before .before .before .before .before .before .unit-sums .ensures .few, c .before .before .before .before .before .before .before .before .before .before .before .before .pre .1 .0 .sound .few .units, c .before .before .before .before .before .before .before .before .before .before .before .before .pre .1 .1 .1 .few)
 
 add-net : tie.Need-add-net
-add-net c = omega (arith, c .before .before .before .before .before .before .before .unit-sums .ensures .credit-small, c .before .before .before .before .before .before .before .before .before .before .before .before .before .pre .1 .0 .few .units, c .before .before .before .before .over-regions .ensures .small)
+add-net c = omega (arith, c .before .before .before .before .before .before .before .unit-sums .ensures .credit-small, c .before .before .before .before .before .before .before .before .before .before .before .before .before .pre .1 .0 .sound .few .units, c .before .before .before .before .over-regions .ensures .small)
 
 add-net-2 : tie.Need-add-net-2
-add-net-2 c = omega (arith, c .before .before .before .before .before .before .before .before .unit-sums .ensures .charge-small, c .before .before .before .before .before .before .before .before .before .before .before .before .before .before .pre .1 .0 .few .units, c .before .before .before .before .over-regions2 .ensures .small)
+add-net-2 c = omega (arith, c .before .before .before .before .before .before .before .before .unit-sums .ensures .charge-small, c .before .before .before .before .before .before .before .before .before .before .before .before .before .before .pre .1 .0 .sound .few .units, c .before .before .before .before .over-regions2 .ensures .small)
 
 net-requires : tie.Need-net-requires
-net-requires c κs = (omega (arith, c .before .before .before .before .before .before .before .before .unit-sums .ensures .credit-small, c .before .before .before .before .before .before .before .before .before .before .before .before .before .before .pre .1 .0 .few .units, c .before .before .before .before .before .over-regions .ensures .small), omega (arith, c .before .before .before .before .before .before .before .before .unit-sums .ensures .charge-small, c .before .before .before .before .before .before .before .before .before .before .before .before .before .before .pre .1 .0 .few .units, c .before .before .before .before .over-regions2 .ensures .small))
+net-requires c κs = (omega (arith, c .before .before .before .before .before .before .before .before .unit-sums .ensures .credit-small, c .before .before .before .before .before .before .before .before .before .before .before .before .before .before .pre .1 .0 .sound .few .units, c .before .before .before .before .before .over-regions .ensures .small), omega (arith, c .before .before .before .before .before .before .before .before .unit-sums .ensures .charge-small, c .before .before .before .before .before .before .before .before .before .before .before .before .before .before .pre .1 .0 .sound .few .units, c .before .before .before .before .over-regions2 .ensures .small))
 
 returns : tie.Need-returns
 returns c = regulation-is (bookIn (c .before .before .before .before .before .before .before .before .before .before .before .before .before .before .before .args .book .now) (c .before .before .before .before .before .before .before .before .before .before .before .before .before .before .before .args .h)) _ (c .before .before .before .before .before .before .before .before .before .before .before .before .before .before .before .pre .1 .1 .1) _ _ _ (c .before .before .before .before .before .before .before .before .before .before .before .before .before .recovery-of .ensures) (rw (c .before .before .before .before .before .before .before .before .before .before .before .before .units-at .ensures) at (c .before .before .before .before .before .before .before .before .before .unit-sums .ensures)) (c .before .before .before .before .before .before .over-regions .ensures) (c .before .before .before .before .before .over-regions2 .ensures) (toZ-ofZ (sfits-of (c .before .before .before .before .signed .ok)) ∙ c .before .before .before .before .signed .ensures) (toZ-ofZ (sfits-of (c .net .ok)) ∙ c .net .ensures)

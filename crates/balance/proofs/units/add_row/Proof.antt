@@ -3,7 +3,7 @@ use mathlib.Core.Path.{refl, ap}
 use Prim.Native.Nat.{_+_}
 use native.Mathlib.Omega.{arith}
 use borrow.Author.Needs.{needs}
-use Rattle.ground.proofs.Rounding.{round-share}
+use Rattle.numbers.proofs.Rounding.{round-share}
 use Rattle.balance.proofs.UnitTurns.{above-small, below-small}
 use Rattle.balance.proofs.units.add_row.Statement.{statement}
 use Rattle.balance.proofs.units.add_row.Tie as tie

@@ -1,4 +1,4 @@
--- `ground::read::above_of` meets its contract. The test decides the case. Assumes nothing.
+-- `numbers::twos::above_of` meets its contract. The test decides the case. Assumes nothing.
 use borrow.Author.Tests.{lt-ltb, le-ltb}
 use Rattle.ground.specs.Sizes.{aboveOf}
 use Rattle.ground.proofs.read.above_of.Statement.{statement}

@@ -1,4 +1,4 @@
--- `ground::read::below_of` meets its contract. The test decides the case, and `size_of` gives the size. Assumes nothing.
+-- `numbers::twos::below_of` meets its contract. The test decides the case, and `size_of` gives the size. Assumes nothing.
 use borrow.Author.Needs.{needs}
 use borrow.Author.Tests.{lt-ltb, le-ltb}
 use Rattle.ground.specs.Sizes.{belowOf}

@@ -1,4 +1,4 @@
--- `records::rules::constraint_ok` meets its contract. The tests are those of the definition. Assumes nothing.
+-- `rules::fields::constraint_ok` meets its contract. The tests are those of the definition. Assumes nothing.
 use borrow.Author.Needs.{needs}
 use Rattle.records.proofs.rules.constraint_ok.Statement.{statement}
 use Rattle.records.proofs.rules.constraint_ok.Tie as tie

@@ -1,4 +1,4 @@
--- `records::rules::contract_ok` meets its contract. The tests are those of the definition. Assumes nothing.
+-- `rules::fields::contract_ok` meets its contract. The tests are those of the definition. Assumes nothing.
 use borrow.Author.Needs.{needs}
 use Rattle.records.proofs.rules.contract_ok.Statement.{statement}
 use Rattle.records.proofs.rules.contract_ok.Tie as tie

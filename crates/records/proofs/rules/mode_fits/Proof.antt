@@ -1,4 +1,4 @@
--- `records::rules::mode_fits` meets its contract. The tests are those of the definition. Assumes nothing.
+-- `rules::fields::mode_fits` meets its contract. The tests are those of the definition. Assumes nothing.
 use borrow.Author.Needs.{needs}
 use Rattle.records.specs.Rules.{modeFits}
 use Rattle.records.proofs.rules.mode_fits.Statement.{statement}

@@ -1,4 +1,4 @@
--- `records::rules::product` meets its contract. Two numbers below 2^32 have a product below 2^64. Assumes nothing.
+-- `rules::fields::product` meets its contract. Two numbers below 2^32 have a product below 2^64. Assumes nothing.
 use Prim.Native.Nat.{_≤_}
 use native.Mathlib.Omega.{arith}
 use native.Mathlib.Nat.{mul-le-mul}

@@ -1,4 +1,4 @@
--- `records::rules::shares_ok` meets its contract. Each test, and the sum, one factor after the other. Assumes nothing.
+-- `rules::fields::shares_ok` meets its contract. Each test, and the sum, one factor after the other. Assumes nothing.
 use borrow.Author.Needs.{needs}
 use Rattle.sections.proofs.Total.{total-five}
 use Rattle.sections.specs.Search.{all}

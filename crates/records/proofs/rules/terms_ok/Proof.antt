@@ -1,4 +1,4 @@
--- `records::rules::terms_ok` meets its contract. A factored mode is tested by its data, and any other has nothing to test. Assumes nothing.
+-- `rules::fields::terms_ok` meets its contract. A factored mode is tested by its data, and any other has nothing to test. Assumes nothing.
 use mathlib.Core.Bool.{true}
 use mathlib.Core.Path.{_≡_, refl}
 use borrow.Author.Needs.{needs}

@@ -1,4 +1,4 @@
--- `records::section::first_bad` meets its contract. The invariant: no record so far is refused. The measure is what is left. Assumes nothing.
+-- `rules::section::first_bad` meets its contract. The invariant: no record so far is refused. The measure is what is left. Assumes nothing.
 use Prim.Native.Nat.{_≤_, _-_}
 use mathlib.Core.Path.{_≡_}
 use native.Mathlib.Omega.{arith}

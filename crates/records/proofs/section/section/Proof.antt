@@ -1,4 +1,4 @@
--- `records::section::section` meets its contract. The part of the book from the offset on is the section, and the first record refused gives the place. Assumes nothing.
+-- `rules::section::section` meets its contract. The part of the book from the offset on is the section, and the first record refused gives the place. Assumes nothing.
 use Prim.Native.Nat.{_≤_}
 use native.Mathlib.Omega.{arith}
 use borrow.Author.Needs.{needs}

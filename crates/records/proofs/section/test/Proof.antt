@@ -1,4 +1,4 @@
--- `records::section::test` meets its contract. Each arm is the test of its check. Assumes nothing.
+-- `rules::section::test` meets its contract. Each arm is the test of its check. Assumes nothing.
 use mathlib.Core.Path.{_∙_, ap}
 use borrow.Author.Needs.{needs}
 use Rattle.records.specs.Rules.{entryOk, constraintOk, unitOk, energyOk, contractOk}

@@ -3,7 +3,7 @@ use Prim.Native.Nat.{_≤_, _-_}
 use mathlib.Core.Path.{_≡_}
 use native.Mathlib.Omega.{arith}
 use borrow.Author.Needs.{needs}
-use Rattle.records.specs.Inner.Facts.{EnergyRule}
+use Rattle.rules.specs.Inner.Facts.{EnergyRule}
 use Rattle.records.specs.Rows.{energyRow}
 use Rattle.totals.specs.Inner.Turns.{TotalsOf}
 use Rattle.totals.proofs.Turns.{totals-none, totals-more, totals-small}

@@ -1,0 +1,18 @@
+-- The accounts of a book, and what a part of a pool that is shared by energy comes to over all of them.
+use Prim.Native.Nat.{ℕ}
+use mathlib.Core.List.{List, []}
+use Rattle.records.specs.declared.rows.UnitRow.{UnitRow}
+use Rattle.records.specs.declared.rows.EnergyRow.{EnergyRow}
+use Rattle.sharing.specs.Once.{named}
+
+-- ---- accounts
+
+abbrev pub energyAccount : (ℕ → EnergyRow) → ℕ → ℕ
+energyAccount energy i = energy i .account
+
+abbrev pub unitAccount : (ℕ → UnitRow) → ℕ → ℕ
+unitAccount unit u = unit u .account
+
+-- 01, Balance: "all accounts (each that 11 lets pass)", and 11: "no unit row and no energy row names the account". Each stands once.
+unfoldable pub accountsIn : (ℕ → EnergyRow) → ℕ → (ℕ → UnitRow) → ℕ → List ℕ
+accountsIn energy n unit m = named (unitAccount unit) m (named (energyAccount energy) n [])

@@ -1,0 +1,109 @@
+// A part of a pool that is shared by energy: what the rounded shares of all accounts sum to, in one pass over the energy rows.
+ghost use mathlib.Core.Path.{_≡_};
+ghost use Prim.Native.Nat.{_*_, _≤_, _<_};
+ghost use lib.ListN.{length};
+ghost use Rattle.numbers.specs.Round.{roundN};
+ghost use Rattle.ground.specs.Units.{moneyLimit, totalLimit};
+ghost use Rattle.sections.specs.Inner.Walk.{Stands};
+ghost use Rattle.rules.specs.Inner.Facts.{EnergyRule};
+ghost use Rattle.records.specs.Rows.{energyRow};
+ghost use Rattle.sharing.specs.Inner.Groups.{GroupIs};
+ghost use Rattle.sharing.specs.Accounts.{energyAccount};
+ghost use Rattle.sharing.specs.Inner.Shares.{byBasis, energyIn, partSum, Sorted, Shareable};
+use market::Region;
+use records::rows;
+use records::rows::EnergyRow;
+
+// By which energy a part is shared: that consumed, that sent out, or the residual of both.
+pub enum Basis {
+    Ace,
+    Asoe,
+    Residual,
+}
+
+// An amount that is shared by the energy of one kind in the regions of a mask, which together is the whole.
+pub struct Part {
+    pub amount: u64,
+    pub whole: u64,
+    pub mask: u8,
+    pub basis: Basis,
+}
+
+// What one account owns in a part, and the row behind its last.
+struct Group {
+    own: u64,
+    end: usize,
+}
+
+fn by_basis(basis: Basis, r: EnergyRow) -> u64
+    ensures { λ x. ⌜ x ≡ byBasis basis r ⌝ }
+{
+    match basis {
+        Basis::Ace => r.ace as u64,
+        Basis::Asoe => r.asoe as u64,
+        Basis::Residual => (r.race as u64) + (r.rasoe as u64),
+    }
+}
+
+// The energy of a row that a part counts. It is a product and no branch: which rows a part counts, the processor's branch prediction would
+// often guess wrong.
+fn energy_in(p: Part, r: EnergyRow) -> u64
+    requires { ⌜ EnergyRule r ⌝ }
+    ensures { λ x. ⌜ x ≡ energyIn p r ⌝ }
+{
+    let basis = p.basis;
+    (Region::of(r.region).is_in(p.mask) as u64) * by_basis(basis, r)
+}
+
+// The rows of one account, from the first of them on: they stand side by side.
+fn gather(energy: &[u8], n: usize, from: usize, p: Part) -> Group
+    requires { ⌜ (n * 24 ≤ length (now energy)) × (from < n) ⌝ }
+    requires { ⌜ Sorted (energyRow (now energy)) n ⌝ }
+    requires { ⌜ Stands (energyAccount (energyRow (now energy))) n (energyRow (now energy) from .account) from ⌝ }
+    ensures { λ g. ⌜ GroupIs p (energyRow (now (energy .entry))) n from g ⌝ }
+{
+    let account = rows::energy_row(energy, from).account;
+    let mut own: u64 = 0;
+    let mut j = from;
+    while j < n {
+        let r = rows::energy_row(energy, j);
+        if r.account != account {
+            return Group { own, end: j };
+        }
+        own += energy_in(p, r);
+        j += 1;
+    }
+    Group { own, end: j }
+}
+
+// The rounded share of what an account owns. One without energy in the part's regions owns nothing, and needs no division.
+fn share_of(p: Part, own: u64) -> u64
+    requires { ⌜ (p .amount ≤ moneyLimit) × ((own ≤ p .whole) × ((0 < p .whole) × (p .whole ≤ totalLimit))) ⌝ }
+    ensures { λ x. ⌜ x ≡ roundN (p .amount * own) (p .whole) ⌝ }
+{
+    if own == 0 {
+        return 0;
+    }
+    amounts::shares::share(p.amount, own, p.whole)
+}
+
+// The rounded shares of all accounts, summed. The energy rows are sorted by account, so each share is made as the rows pass.
+pub fn part_sum(energy: &[u8], n: usize, p: Part) -> u64
+    requires { ⌜ n * 24 ≤ length (now energy) ⌝ }
+    requires { ⌜ Sorted (energyRow (now energy)) n ⌝ }
+    requires { ⌜ Shareable p (energyRow (now energy)) n ⌝ }
+    ensures { λ x. ⌜ (x ≡ partSum p (energyRow (now (energy .entry))) n) × (x ≤ 51_200_000_000_000) ⌝ }
+{
+    // A pool of 0 needs no pass.
+    if p.amount == 0 {
+        return 0;
+    }
+    let mut sum: u64 = 0;
+    let mut i = 0;
+    while i < n {
+        let g = gather(energy, n, i, p);
+        sum += share_of(p, g.own);
+        i = g.end;
+    }
+    sum
+}
