@@ -1,18 +1,18 @@
 -- What was found over a book's rows, said of the account's own rows; and in an accepted book its energy is at most its region's.
 -- Assumes nothing.
-use Prim.Native.Nat.{ℕ, _+_, _<_}
+use Prim.Native.Nat.{ℕ, _<_}
 use mathlib.Core.Path.{_≡_, refl, sym, _∙_}
 use mathlib.Core.Bool.{Bool, true, false, cond, not, _&&_}
-use native.Mathlib.Omega.{arith}
 use lib.Dec.{eqb}
 use Rattle.rules.specs.Inner.Facts.{EntryRule}
 use Rattle.records.specs.declared.rows.EnergyRow.{EnergyRow}
 use Rattle.totals.specs.Inner.Totals.{Five, entryOf}
-use Rattle.totals.proofs.Turns.{totals-once}
+use Rattle.totals.specs.Sums.{rowBy}
+use Rattle.totals.proofs.Turns.{entry-with, under-rule, totals-once}
 use Rattle.book.specs.Book.{Book}
 use Rattle.book.specs.Inner.Accepted.{ownTotal, AtMostEntry, Promise}
 use Rattle.accounts.specs.Rows.{rowsOf, keep, sumOf, none}
-use Rattle.accounts.specs.Account.{rowsOfAccount, ownEnergy, unknown}
+use Rattle.accounts.specs.Account.{rowsOfAccount, ownBy, ownEnergy, unknown}
 use Rattle.accounts.specs.Inner.Held.{HeldIs}
 use Rattle.accounts.specs.declared.Held.{Held}
 use Rattle.accounts.proofs.Lists.{total-rows}
@@ -30,26 +30,16 @@ own-in B account g f =
     (B .header .energies)
 
 module _ {B : Book} (h : Promise B) (account g : ℕ) where
-  pub own-within : g < 5 → AtMostEntry (B .entry g) (ownEnergy (rowsOfAccount B account .energies) g .ace) (ownEnergy (rowsOfAccount B account .energies) g .asoe) (ownEnergy (rowsOfAccount B account .energies) g .residual)
+  pub own-within : g < 5 → AtMostEntry (B .entry g) (ownEnergy (rowsOfAccount B account .energies) g)
   unfolding ownEnergy
   own-within l =
-      let w = h .sound .own account g l in
       record {
-        ace = rw (← own-in B account g (λ r. r .ace)) (w .ace);
-        asoe = rw (← own-in B account g (λ r. r .asoe)) (w .asoe);
-        residual = rw (← own-in B account g (λ r. r .race + r .rasoe)) (w .residual);
+        each = λ b. rw (entry-with (ownBy (rowsOfAccount B account .energies) g) b, ← own-in B account g (rowBy b), ← entry-with (λ b. ownTotal B account g (rowBy b)) b) (h .sound .own account g l .each b);
       }
 
   -- so it keeps an entry's rule
   pub own-rule : g < 5 → EntryRule (ownEnergy (rowsOfAccount B account .energies) g)
-  own-rule l =
-      let w = own-within l in
-      let e = h .sound .fields .entries g l in
-      record {
-        ace = omega (arith, w .ace, e .ace);
-        asoe = omega (arith, w .asoe, e .asoe);
-        residual = omega (arith, w .residual, e .residual);
-      }
+  own-rule l = under-rule (own-within l .each) (h .sound .fields .entries g l)
 
 -- ---- what was found
 

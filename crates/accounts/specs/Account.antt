@@ -1,13 +1,15 @@
 -- What a statement may depend on: the public part of a book, and an account's own rows.
-use Prim.Native.Nat.{ℕ, _+_}
+use Prim.Native.Nat.{ℕ}
 use mathlib.Core.Bool.{_&&_, Bool, cond}
 use mathlib.Core.List.{List}
 use lib.Dec.{eqb}
+use Rattle.market.specs.declared.Basis.{Basis}
 use Rattle.records.specs.declared.rows.Entry.{Entry}
 use Rattle.records.specs.declared.rows.Constraint.{Constraint}
 use Rattle.records.specs.declared.rows.UnitRow.{UnitRow}
 use Rattle.records.specs.declared.rows.EnergyRow.{EnergyRow}
 use Rattle.records.specs.declared.rows.Contract.{Contract}
+use Rattle.totals.specs.Sums.{rowBy, entryWith}
 use Rattle.book.specs.Book.{Book}
 use Rattle.accounts.specs.Rows.{rowsOf, keep, sumOf, none}
 
@@ -43,14 +45,13 @@ rowsOfAccount B account =
       units = keep (λ r. eqb (r .account) account) (rowsOf (B .unit) (B .header .units));
     }
 
--- an account's own energy in region g, put as a region's entry is. "Missing energy rows count as 0."
+-- an account's own energy of one kind in region g. "Missing energy rows count as 0."
+abbrev pub ownBy : List EnergyRow → ℕ → Basis → ℕ
+ownBy rows g b = sumOf (λ r. cond (eqb (r .region) g) (rowBy b r) 0) rows
+
+-- of each kind, put as a region's entry is
 unfoldable pub ownEnergy : List EnergyRow → ℕ → Entry
-ownEnergy rows g =
-    record {
-      ace = sumOf (λ r. cond (eqb (r .region) g) (r .ace) 0) rows;
-      asoe = sumOf (λ r. cond (eqb (r .region) g) (r .asoe) 0) rows;
-      residual = sumOf (λ r. cond (eqb (r .region) g) (r .race + r .rasoe) 0) rows;
-    }
+ownEnergy rows g = entryWith (ownBy rows g)
 
 -- 11: "no unit row and no energy row names the account"
 abbrev pub unknown : Rows → Bool

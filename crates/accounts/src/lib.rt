@@ -1,4 +1,6 @@
 // An account's own rows: its energy by region, and whether the book knows it.
+pub mod energies; // energies.rt: a book's energies as a part of its bytes
+
 ghost use mathlib.Core.Path.{_≡_};
 ghost use mathlib.Core.Bool.{not};
 ghost use Prim.Native.Nat.{ℕ, _*_, _≤_, _<_};
@@ -8,10 +10,9 @@ ghost use Rattle.sections.specs.Inner.Order.{Keeps};
 ghost use Rattle.records.specs.Rows.{energyRow, unitRow};
 ghost use Rattle.rules.specs.Inner.Facts.{EnergyRule};
 ghost use Rattle.accounts.specs.Rows.{rowsOf, keep, none};
-ghost use Rattle.accounts.specs.Inner.Held.{Low, OwnAdded, HeldIs};
+ghost use Rattle.accounts.specs.Inner.Held.{HeldIs};
 use records::find;
 use records::rows;
-use records::rows::EnergyRow;
 use totals::entries;
 use totals::entries::Totals;
 
@@ -19,18 +20,6 @@ use totals::entries::Totals;
 pub struct Held {
     pub own: Totals,
     pub any: bool,
-}
-
-// A row added to its region's sums.
-fn add_row(ace: &mut [u64; 5], asoe: &mut [u64; 5], residual: &mut [u64; 5], r: EnergyRow)
-    requires { ⌜ EnergyRule r ⌝ }
-    requires { ⌜ Low (record { ace = now ace; asoe = now asoe; residual = now residual }) (r .region) ⌝ }
-    ensures { λ _. ⌜ OwnAdded r (record { ace = now (ace .entry); asoe = now (asoe .entry); residual = now (residual .entry) }) (record { ace = now (ace .exit); asoe = now (asoe .exit); residual = now (residual .exit) }) ⌝ }
-{
-    let g = r.region as usize;
-    entries::bump(ace, g, r.ace as u64);
-    entries::bump(asoe, g, r.asoe as u64);
-    entries::bump(residual, g, (r.race as u64) + (r.rasoe as u64));
 }
 
 // The account's energy over the n energy rows. They are sorted by account, so its own stand side by side, and only these are added.
@@ -47,7 +36,7 @@ pub fn own_energy(energy: &[u8], n: usize, account: u32) -> Held
     let mut i = first;
     while find::has_key(energy, 24, n, i, account) {
         let r = rows::energy_row(energy, i);
-        add_row(&mut ace, &mut asoe, &mut residual, r);
+        entries::add_row(&mut ace, &mut asoe, &mut residual, r, r.region as usize);
         i += 1;
     }
     Held {

@@ -20,6 +20,8 @@ use Rattle.book.specs.Book.{Book}
 use Rattle.book.specs.Inner.Accepted.{Promise}
 use Rattle.accounts.specs.Rows.{sumOf}
 use Rattle.accounts.specs.Account.{publicOf, rowsOfAccount}
+use Rattle.accounts.specs.Inner.Energies.{energiesOf}
+use Rattle.accounts.proofs.Parts.{sound-of}
 use Rattle.sharing.specs.Inner.Shares.{shareIn, partSum, Shareable}
 use Rattle.sharing.specs.declared.shares.Part.{Part}
 use Rattle.sharing.proofs.Sums.{sum-same, sum-plus, sum-none}
@@ -31,7 +33,7 @@ use Rattle.balance.specs.Inner.Shapes.{belongs, unitRows, unitCredit, un
 use Rattle.balance.specs.declared.kinds.Kind.{Kind}
 use Rattle.balance.specs.declared.kinds.Kind.the-variants.{Contingency}
 use Rattle.balance.proofs.Kept.{Kept}
-use Rattle.balance.proofs.Shareables.{cost-shareable, credit-shareable, charge-shareable, consumed-shareable, sent-shareable}
+use Rattle.balance.proofs.Shareables.{cost-shareable, credit-shareable, charge-shareable, paid-by, consumed-shareable, sent-shareable}
 use Rattle.balance.proofs.PoolLines.{ownUnits, regionShare, contingency-lines, regulation-lines, contract-lines}
 
 -- ---- sums over a list
@@ -98,7 +100,7 @@ module _ (B : Book) where
 -- ---- the balance of each kind of pool
 
 module _ {B : Book} (p : Promise B) where
-  pub contingency-balance : (j : ℕ) → j < B .header .constraints → B .constraint j .mode ≡ 0 → balanceIn B (constraintPool (B .constraint j) Contingency) ≡ contingencyShape B (B .constraint j)
+  pub contingency-balance : (j : ℕ) → j < B .header .constraints → B .constraint j .mode ≡ 0 → balanceIn B (constraintPool (B .constraint j) Contingency) ≡ contingencyShape (energiesOf B) (length (accountsOf B)) (B .constraint j)
   unfolding constraintPool recovers contingencyShape
   contingency-balance j l e =
       balance-is B (constraintPool (B .constraint j) Contingency) _ _ _ (λ a. contingency-lines p a j l e)
@@ -118,7 +120,7 @@ module _ {B : Book} (p : Promise B) where
   contract-count i =
       sum-each _ (accountsOf B) ∙ rw (count-times (λ g. eqb (factorOf (B .contract i .factors) g) 0) 2 5) (omega arith)
 
-  region-sum : (i : ℕ) → i < B .header .contracts → (g : ℕ) → g < 5 → sumOf (λ a. cond (eqb (factorOf (B .contract i .factors) g) 0) 0 (regionShare B a (B .contract i) g)) (accountsOf B) ≡ regionPaid B (B .contract i) g
+  region-sum : (i : ℕ) → i < B .header .contracts → (g : ℕ) → g < 5 → sumOf (λ a. cond (eqb (factorOf (B .contract i .factors) g) 0) 0 (regionShare B a (B .contract i) g)) (accountsOf B) ≡ regionPaid (energiesOf B) (B .contract i) g
   unfolding regionPaid
   region-sum i l g m = by (eqb (factorOf (B .contract i .factors) g) 0) refl
     where
@@ -126,9 +128,9 @@ module _ {B : Book} (p : Promise B) where
       by true e = sum-none (accountsOf B)
       by false e =
           let d = eqb-false (factorOf (B .contract i .factors) g) 0 e in
-          sum-plus _ _ (accountsOf B) ∙ ap₂ _+_ (shares-once B _ (consumed-shareable p i g l m d)) (shares-once B _ (sent-shareable p i g l m d))
+          sum-plus _ _ (accountsOf B) ∙ ap₂ _+_ (shares-once B _ (consumed-shareable (sound-of p) (paid-by p i l) g m d)) (shares-once B _ (sent-shareable (sound-of p) (paid-by p i l) g m d))
 
-  pub contract-balance : (i : ℕ) → i < B .header .contracts → balanceIn B (contractPool (B .contract i)) ≡ contractShape B (B .contract i)
+  pub contract-balance : (i : ℕ) → i < B .header .contracts → balanceIn B (contractPool (B .contract i)) ≡ contractShape (energiesOf B) (length (accountsOf B)) (B .contract i)
   unfolding contractPool contractShape
   contract-balance i l =
       balance-is B (contractPool (B .contract i)) _ _ _ (λ a. contract-lines p a i l)

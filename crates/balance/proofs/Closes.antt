@@ -31,6 +31,8 @@ use Rattle.book.proofs.Promise.{accepted}
 use Rattle.amounts.specs.Pools.{poolsOf, residualPools, halvesOf}
 use Rattle.amounts.specs.declared.pools.Pools.{Pools}
 use Rattle.accounts.specs.Account.{publicOf}
+use Rattle.accounts.specs.Inner.Energies.{energiesOf}
+use Rattle.accounts.proofs.Parts.{sound-of}
 use Rattle.sharing.specs.Inner.Within.{HalvesApart}
 use Rattle.sharing.specs.Inner.Shares.{shareIn, partSum, Shareable}
 use Rattle.sharing.specs.declared.shares.Part.{Part}
@@ -42,7 +44,8 @@ use Rattle.balance.specs.Inner.Shapes.{belongs, aboveBy, belowBy, poolBy
 use Rattle.balance.specs.declared.Balance.{Balance}
 use Rattle.balance.specs.declared.kinds.Kind.{Kind}
 use Rattle.balance.specs.declared.kinds.Kind.the-variants.{Contingency, Fpp, Used, Unused, Payment}
-use Rattle.balance.proofs.Shareables.{cost-shareable, credit-shareable, charge-shareable, consumed-shareable, sent-shareable}
+use Rattle.balance.proofs.Energy.{choice-none}
+use Rattle.balance.proofs.Shareables.{cost-shareable, credit-shareable, charge-shareable, paid-by, consumed-shareable, sent-shareable}
 use Rattle.balance.proofs.Balances.{count-times, shares-once, contingency-balance, regulation-balance, contract-balance}
 use Rattle.balance.proofs.Found.{Each, each-none, each-more, each-pool}
 use Rattle.balance.proofs.Closeness.{size-within, within-plain, within-halves, within-total, Close, nothing, close-charge, close-one, close-unless, close-choice, close-plus, close-total, close-within}
@@ -158,11 +161,7 @@ module _ {B : Book} (p : Promise B) where
   -- no factor
   no-factor : (id : ℕ) → sumOver (B .unit) (B .header .units) id (λ q. 0) ≡ 0
   unfolding keyed
-  no-factor id = sym (total-zero _ (B .header .units) (λ u l. by (eqb (keyOf (B .unit) u) id)))
-    where
-      by : (t : Bool) → _≡_ {A = ℕ} (cond t 0 0) 0
-      by true = refl
-      by false = refl
+  no-factor id = sym (total-zero _ (B .header .units) (λ u l. choice-none (eqb (keyOf (B .unit) u) id)))
 
   module _ (j : ℕ) (l : j < B .header .constraints) (live : B .constraint j .mode ≡ 0 → ⊥) where
     -- the default factors make a million, factored or not
@@ -223,7 +222,7 @@ module _ {B : Book} (p : Promise B) where
         (λ g m. close-unless (B .contract i .payment) (factorOf (B .contract i .factors) g) (eqb (factorOf (B .contract i .factors) g) 0) (eqb-true (factorOf (B .contract i .factors) g) 0))
 
     -- a region's part, halved and shared: a half for each of its lines
-    region-within : (g : ℕ) → g < 5 → HalvesApart (cond (eqb (factorOf (B .contract i .factors) g) 0) 0 (2 * length (accountsOf B))) (roundN (B .contract i .payment * factorOf (B .contract i .factors) g) 1_000_000) (regionPaid B (B .contract i) g)
+    region-within : (g : ℕ) → g < 5 → HalvesApart (cond (eqb (factorOf (B .contract i .factors) g) 0) 0 (2 * length (accountsOf B))) (roundN (B .contract i .payment * factorOf (B .contract i .factors) g) 1_000_000) (regionPaid (energiesOf B) (B .contract i) g)
     unfolding regionPaid halvesOf consumedPart sentPart
     region-within g m = by (eqb (factorOf (B .contract i .factors) g) 0) refl
       where
@@ -231,9 +230,9 @@ module _ {B : Book} (p : Promise B) where
         by true e = rw (nothing (B .contract i .payment) _ (eqb-true (factorOf (B .contract i .factors) g) 0 e)) (record { up = omega arith; down = omega arith })
         by false e =
             let d = eqb-false (factorOf (B .contract i .factors) g) 0 e in
-            within-halves _ (length (accountsOf B)) (part-within _ (consumed-shareable p i g l m d)) (part-within _ (sent-shareable p i g l m d))
+            within-halves _ (length (accountsOf B)) (part-within _ (consumed-shareable (sound-of p) (paid-by p i l) g m d)) (part-within _ (sent-shareable (sound-of p) (paid-by p i l) g m d))
 
-    contract-within : HalvesApart (contractShape B (B .contract i) .lines + benefiting (B .contract i)) (B .contract i .payment + 0) (total (regionPaid B (B .contract i)) 5)
+    contract-within : HalvesApart (contractShape (energiesOf B) (length (accountsOf B)) (B .contract i) .lines + benefiting (B .contract i)) (B .contract i .payment + 0) (total (regionPaid (energiesOf B) (B .contract i)) 5)
     unfolding contractShape benefiting
     contract-within =
         let count = count-times (λ g. eqb (factorOf (B .contract i .factors) g) 0) (2 * length (accountsOf B)) 5 in

@@ -14,11 +14,13 @@ use Rattle.book.specs.Inner.Facts.{Laid}
 use Rattle.book.specs.Table.{verdict}
 use Rattle.book.specs.Inner.Accepted.{Promise, AcceptedBook}
 use Rattle.book.proofs.Promise.{accepted}
+use Rattle.totals.specs.Inner.Energies.{Energies}
 use Rattle.accounts.specs.Account.{publicOf}
+use Rattle.accounts.specs.Inner.Energies.{energiesOf}
 use Rattle.balance.specs.Pools.{constraintPool, contractPool, poolsIn}
 use Rattle.balance.specs.Balance.{balanceIn, answerTo, balancesIn, balanceIf, balanceOf}
 use Rattle.balance.specs.Inner.Places.{PlaceIs}
-use Rattle.balance.specs.Inner.Rests.{OfConstraint, OfContract}
+use Rattle.balance.specs.Inner.Rests.{OfConstraint, PaidBy, Counted}
 use Rattle.balance.specs.Inner.Shapes.{belongs, contingencyShape, regulationShape, contractShape}
 use Rattle.balance.specs.declared.Balance.{Balance}
 use Rattle.balance.specs.declared.Balanced.{Balanced}
@@ -27,6 +29,7 @@ use Rattle.balance.specs.declared.kinds.Kind.{Kind}
 use Rattle.balance.specs.declared.kinds.Kind.the-variants.{Contingency, Fpp, Used, Unused, Payment}
 use Rattle.balance.specs.declared.places.Place.{Place}
 use Rattle.balance.specs.declared.places.Place.the-variants as place
+use Rattle.balance.proofs.Shareables.{paid-by}
 use Rattle.balance.proofs.Balances.{contingency-balance, regulation-balance, contract-balance}
 
 -- ---- the verdict
@@ -91,18 +94,18 @@ module _ {B : Book} (p : Promise B) where
     pub of-constraint : OfConstraint B r
     of-constraint = record { place = j; within = l; same = e }
 
-    pub end-contingency : {x : Balance} → r .mode ≡ 0 → x ≡ contingencyShape B r → x ≡ balanceIn B (constraintPool (B .constraint j) kind)
-    end-contingency z s =
+    pub end-contingency : {E : Energies} {c : ℕ} {x : Balance} → r .mode ≡ 0 → E ≡ energiesOf B → Counted B c → x ≡ contingencyShape E c r → x ≡ balanceIn B (constraintPool (B .constraint j) kind)
+    end-contingency z q n s =
         let m = rw e at z in
-        s ∙ ap (contingencyShape B) e ∙ sym (contingency-balance p j l m) ∙ ap (λ (k : Kind). balanceIn B (constraintPool (B .constraint j) k)) (sym (only-contingency (B .constraint j) kind m o))
+        rw (q, n .all, e) at s ∙ sym (contingency-balance p j l m) ∙ ap (λ (k : Kind). balanceIn B (constraintPool (B .constraint j) k)) (sym (only-contingency (B .constraint j) kind m o))
 
     pub end-regulation : {x : Balance} → (r .mode ≡ 0 → ⊥) → x ≡ regulationShape B r kind → x ≡ balanceIn B (constraintPool (B .constraint j) kind)
     end-regulation z s =
         s ∙ ap (λ (r : Constraint). regulationShape B r kind) e ∙ sym (regulation-balance p j kind l (λ m. z (ap (λ (r : Constraint). r .mode) e ∙ m)) o)
 
   module _ (i : ℕ) (l : i < B .header .contracts) (k : Contract) (e : k ≡ B .contract i) where
-    pub of-contract : OfContract B k
-    of-contract = record { place = i; within = l; same = e }
+    pub paid-in : PaidBy (B .entry) k
+    paid-in = rw e (paid-by p i l)
 
-    pub end-paid : {x : Balance} → x ≡ contractShape B k → x ≡ balanceIn B (contractPool (B .contract i))
-    end-paid s = s ∙ ap (contractShape B) e ∙ sym (contract-balance p i l)
+    pub end-paid : {E : Energies} {c : ℕ} {x : Balance} → E ≡ energiesOf B → Counted B c → x ≡ contractShape E c k → x ≡ balanceIn B (contractPool (B .contract i))
+    end-paid q n s = rw (q, n .all, e) at s ∙ sym (contract-balance p i l)

@@ -10,17 +10,16 @@ use Rattle.sections.specs.Total.{total, keyed, totalOf}
 use Rattle.sections.specs.Search.{all}
 use Rattle.sections.proofs.Total.{total-zero, total-same, total-swap, keyed-hit, keyed-miss, total-only}
 use Rattle.sections.proofs.Search.{all-each}
-use Rattle.market.specs.Kinds.{raises, regulates, bitSet}
+use Rattle.market.specs.Kinds.{basisOf, bitSet}
+use Rattle.market.specs.declared.Basis.{Basis}
 use Rattle.records.specs.declared.rows.Entry.{Entry}
 use Rattle.records.specs.declared.rows.Constraint.{Constraint}
 use Rattle.records.specs.declared.rows.EnergyRow.{EnergyRow}
-use Rattle.totals.specs.Sums.{regionOf}
-use Rattle.totals.specs.Divisors.{basisOf, countedIn, overRegions}
-use Rattle.sharing.specs.Inner.Shares.{byBasis, energyIn}
-use Rattle.sharing.specs.declared.shares.Basis.{Basis}
-use Rattle.sharing.specs.declared.shares.Basis.the-variants.{Ace, Asoe, Residual}
+use Rattle.totals.specs.Sums.{entryBy, rowBy, regionOf}
+use Rattle.totals.specs.Divisors.{countedIn, overRegions}
+use Rattle.sharing.specs.Inner.Shares.{energyIn}
 use Rattle.sharing.specs.declared.shares.Part.{Part}
-use Rattle.balance.specs.Inner.Shapes.{constraintBasis, partOf}
+use Rattle.balance.specs.Inner.Shapes.{partOf}
 
 -- ---- sums
 
@@ -57,43 +56,27 @@ one-region g h k l =
     agreed (bitSet (2 ^ g) h) (eqb h g)
     (all-each (λ h. agree (bitSet (2 ^ g) h) (eqb h g)) 5 (all-each (λ g. all (λ h. agree (bitSet (2 ^ g) h) (eqb h g)) 5) 5 refl g k) h l)
 
--- ---- an entry's energy of one kind
-
-unfoldable pub entryBy : Basis → Entry → ℕ
-entryBy Ace e = e .ace
-entryBy Asoe e = e .asoe
-entryBy Residual e = e .residual
-
-basis-of : (r : Constraint) (e : Entry) → basisOf r e ≡ entryBy (constraintBasis r) e
-unfolding basisOf constraintBasis entryBy
-basis-of r e = by (regulates (r .service)) (raises (r .service))
-  where
-    by : (a b : Bool) → cond a (e .residual) (cond b (e .asoe) (e .ace)) ≡ entryBy (cond a Residual (cond b Asoe Ace)) e
-    by true b = refl
-    by false true = refl
-    by false false = refl
-
 -- ---- from regions to rows; e g has the sums over those of the rows in region g that count
 
 pub record Counted (energy : ℕ → EnergyRow) (n : ℕ) (counts : ℕ → Bool) (e : ℕ → Entry) : Type 0 where
   pub low : (i : ℕ) → i < n → energy i .region ≤ 4
-  pub sums : (b : Basis) (g : ℕ) → g < 5 → entryBy b (e g) ≡ totalOf (regionOf energy) g (λ i. cond (counts i) (byBasis b (energy i)) 0) n
+  pub sums : (b : Basis) (g : ℕ) → g < 5 → entryBy b (e g) ≡ totalOf (regionOf energy) g (λ i. cond (counts i) (rowBy b (energy i)) 0) n
 
 module _ {energy : ℕ → EnergyRow} {n : ℕ} {counts : ℕ → Bool} {e : ℕ → Entry} (c : Counted energy n counts e) where
   -- what a row counts for, in its own region only
-  row-part : (p : Part) (i : ℕ) → i < n → total (λ g. cond (bitSet (p .mask) g) (keyed (regionOf energy) g (λ i. cond (counts i) (byBasis (p .basis) (energy i)) 0) i) 0) 5 ≡ cond (counts i) (energyIn p (energy i)) 0
+  row-part : (p : Part) (i : ℕ) → i < n → total (λ g. cond (bitSet (p .mask) g) (keyed (regionOf energy) g (λ i. cond (counts i) (rowBy (p .basis) (energy i)) 0) i) 0) 5 ≡ cond (counts i) (energyIn p (energy i)) 0
   unfolding energyIn
   row-part p i l =
-      let x : ℕ → ℕ = λ i. cond (counts i) (byBasis (p .basis) (energy i)) 0 in
+      let x : ℕ → ℕ = λ i. cond (counts i) (rowBy (p .basis) (energy i)) 0 in
       let low = c .low i l in
       total-only (λ g. cond (bitSet (p .mask) g) (keyed (regionOf energy) g x i) 0) (energy i .region) 5 (omega arith)
       (λ g m d. ap (λ (y : ℕ). cond (bitSet (p .mask) g) y 0) (keyed-miss (regionOf energy) g x i (λ q. d (sym q))) ∙ choice-none (bitSet (p .mask) g))
       ∙ ap (λ (y : ℕ). cond (bitSet (p .mask) (energy i .region)) y 0) (sym (keyed-hit (regionOf energy) (energy i .region) x i refl))
-      ∙ choices (bitSet (p .mask) (energy i .region)) (counts i) (byBasis (p .basis) (energy i))
+      ∙ choices (bitSet (p .mask) (energy i .region)) (counts i) (rowBy (p .basis) (energy i))
 
   part-energy : (p : Part) → total (λ g. cond (bitSet (p .mask) g) (entryBy (p .basis) (e g)) 0) 5 ≡ total (λ i. cond (counts i) (energyIn p (energy i)) 0) n
   part-energy p =
-      let x : ℕ → ℕ → ℕ = λ g i. keyed (regionOf energy) g (λ i. cond (counts i) (byBasis (p .basis) (energy i)) 0) i in
+      let x : ℕ → ℕ → ℕ = λ g i. keyed (regionOf energy) g (λ i. cond (counts i) (rowBy (p .basis) (energy i)) 0) i in
       total-same _ (λ g. total (λ i. cond (bitSet (p .mask) g) (x g i) 0) n) 5
       (λ g l. ap (λ (y : ℕ). cond (bitSet (p .mask) g) y 0) (c .sums (p .basis) g l) ∙ choice-total (bitSet (p .mask) g) (x g) n)
       ∙ total-swap (λ g i. cond (bitSet (p .mask) g) (x g i) 0) n 5
@@ -102,9 +85,7 @@ module _ {energy : ℕ → EnergyRow} {n : ℕ} {counts : ℕ → Bool} {e : ℕ
   -- over a constraint's regions
   pub constraint-energy : (entry : ℕ → Entry) (r : Constraint) (amount : ℕ) → overRegions e r ≡ total (λ i. cond (counts i) (energyIn (partOf entry r amount) (energy i)) 0) n
   unfolding countedIn partOf
-  constraint-energy entry r amount =
-      total-same _ (λ g. cond (bitSet (r .mask) g) (entryBy (constraintBasis r) (e g)) 0) 5 (λ g l. ap (λ (y : ℕ). cond (bitSet (r .mask) g) y 0) (basis-of r (e g)))
-      ∙ part-energy (partOf entry r amount)
+  constraint-energy entry r amount = part-energy (partOf entry r amount)
 
   -- in one region
   pub region-energy : (p : Part) (g : ℕ) → g < 5 → p .mask ≡ 2 ^ g → entryBy (p .basis) (e g) ≡ total (λ i. cond (counts i) (energyIn p (energy i)) 0) n

@@ -10,30 +10,26 @@ use borrow.Author.Tests.{eq-eqb, ne-eqb, eqb-true, eqb-false}
 use lib.Dec.{eqb}
 use lib.ListN.{getD, set, replicate, length-set, length-replicate}
 use lib.Seq.{getD-set-same, getD-set-other}
-use Rattle.ground.specs.Bytes.{partFrom}
 use Rattle.numbers.specs.Round.{roundN}
 use Rattle.numbers.proofs.Rounding.{round-share}
 use Rattle.sections.specs.Total.{total, keyed, totalOf}
 use Rattle.sections.proofs.Total.{total-more, total-bound, total-zero, total-same, total-swap, keyed-hit, keyed-miss, keyed-plus, total-five, total-has, total-only}
-use Rattle.records.specs.Rows.{energyRow}
 use Rattle.market.specs.Kinds.{bitSet}
+use Rattle.market.specs.declared.Basis.the-variants.{Ace, Asoe}
 use Rattle.rules.specs.Rules.{factorOf}
 use Rattle.records.specs.declared.rows.Entry.{Entry}
 use Rattle.records.specs.declared.rows.Contract.{Contract}
 use Rattle.records.specs.declared.rows.EnergyRow.{EnergyRow}
-use Rattle.totals.specs.Sums.{regionOf, aceOf, asoeOf}
-use Rattle.book.specs.Book.{Book, bookIn}
-use Rattle.book.specs.Header.{energiesFrom}
-use Rattle.book.specs.Inner.Accepted.{Promise}
-use Rattle.book.specs.declared.header.Header.{Header}
+use Rattle.totals.specs.Sums.{regionOf, energyOf}
+use Rattle.totals.specs.Inner.Energies.{Energies, Sound}
 use Rattle.amounts.specs.Pools.{halvesOf}
 use Rattle.amounts.specs.declared.pools.Halves.{Halves}
-use Rattle.sharing.specs.Inner.Shares.{byBasis, partSum, Shareable}
+use Rattle.sharing.specs.Inner.Shares.{partSum, Shareable}
 use Rattle.sharing.specs.declared.shares.Part.{Part}
 use Rattle.sharing.proofs.Rows.{part-rows}
 use Rattle.balance.specs.Pools.{benefiting}
 use Rattle.balance.specs.Inner.Shapes.{consumedPart, sentPart, regionPaid}
-use Rattle.balance.specs.Inner.Rests.{OfContract, PaidIs, Listed, ListsAre, twoShares, rowPays, Fair, Payable, AllPayable}
+use Rattle.balance.specs.Inner.Rests.{PaidBy, PaidIs, Listed, ListsAre, twoShares, rowPays, Fair, Payable, AllPayable}
 use Rattle.balance.proofs.Energy.{choice-none, one-region}
 use Rattle.balance.proofs.Shareables.{sorted, consumed-shareable, sent-shareable}
 
@@ -52,12 +48,12 @@ listed-more f m {l} {x} s h e =
         let d : g ≡ m → ⊥ = eqb-false g m t in
         getD-set-other l m g x 0 d ∙ s .each g (omega (arith, d))
 
-module _ (B : Book) (k : Contract) where
-  pub lists-none : ListsAre B k 0 (replicate 5 0) (replicate 5 0) (replicate 5 0) (replicate 5 0)
+module _ (entry : ℕ → Entry) (k : Contract) where
+  pub lists-none : ListsAre entry k 0 (replicate 5 0) (replicate 5 0) (replicate 5 0) (replicate 5 0)
   lists-none = record { consumed = listed-none _; sent = listed-none _; ace = listed-none _; asoe = listed-none _ }
 
   -- x and e are the halves and the entry of region g
-  pub lists-more : (g : ℕ) {c s a o : List ℕ} {x : Halves} {e : Entry} → ListsAre B k g c s a o → g < 5 → x ≡ halvesOf (k .payment) (factorOf (k .factors) g) → e ≡ B .entry g → ListsAre B k (g + 1) (set c g (x .consumed)) (set s g (x .sent)) (set a g (e .ace)) (set o g (e .asoe))
+  pub lists-more : (g : ℕ) {c s a o : List ℕ} {x : Halves} {e : Entry} → ListsAre entry k g c s a o → g < 5 → x ≡ halvesOf (k .payment) (factorOf (k .factors) g) → e ≡ entry g → ListsAre entry k (g + 1) (set c g (x .consumed)) (set s g (x .sent)) (set a g (e .ace)) (set o g (e .asoe))
   lists-more g l m hx he =
       record {
         consumed = listed-more _ g (l .consumed) m (ap (λ (x : Halves). x .consumed) hx);
@@ -66,8 +62,8 @@ module _ (B : Book) (k : Contract) where
         asoe = listed-more _ g (l .asoe) m (ap (λ (e : Entry). e .asoe) he);
       }
 
-  pub lists-all : (g : ℕ) {c s a o : List ℕ} → ListsAre B k g c s a o → g ≤ 5 → 5 ≤ g → ListsAre B k 5 c s a o
-  lists-all g {c} {s} {a} {o} l u v = subst (λ (m : ℕ). ListsAre B k m c s a o) (omega arith) l
+  pub lists-all : (g : ℕ) {c s a o : List ℕ} → ListsAre entry k g c s a o → g ≤ 5 → 5 ≤ g → ListsAre entry k 5 c s a o
+  lists-all g {c} {s} {a} {o} l u v = subst (λ (m : ℕ). ListsAre entry k m c s a o) (omega arith) l
 
 -- ---- what is paid by them
 
@@ -102,98 +98,80 @@ module _ {factors c s a o : List ℕ} {energy : ℕ → EnergyRow} {n : ℕ} (h 
   pay-small l e =
       rw e (omega (arith, total-bound (λ i. rowPays factors c s a o (energy i)) 100_000_000_000 i (λ k m. row-small (h .row k (omega arith)) refl)))
 
--- ---- a contract of an accepted book
+-- ---- a contract that sound energies can pay
 
-module _ {B : Book} (p : Promise B) (k : Contract) (o : OfContract B k) where
-  pub halves-fit : (g : ℕ) → g < 5 → (k .payment ≤ 50_000_000_000) × (factorOf (k .factors) g ≤ 1_000_000)
-  halves-fit g m = rw (o .same) ((p .sound .fields .contracts (o .place) (o .within) .payment, p .sound .fields .contracts (o .place) (o .within) .factor g m))
-
-  low : (i : ℕ) → i < B .header .energies → B .energy i .region < 5
-  low i l = omega (arith, p .sound .fields .energies i l .region)
+module _ {E : Energies} (p : Sound E) (k : Contract) (o : PaidBy (E .entry) k) where
+  low : (i : ℕ) → i < E .rows → E .row i .region < 5
+  low i l = omega (arith, p .rules i l .region)
 
   -- a row's shares of region g's halves, and what it pays of them
   abbrev sharesIn : ℕ → EnergyRow → ℕ
   sharesIn g r =
       let x = halvesOf (k .payment) (factorOf (k .factors) g) in
-      twoShares (x .consumed) (x .sent) (B .entry g .ace) (B .entry g .asoe) r
+      twoShares (x .consumed) (x .sent) (E .entry g .ace) (E .entry g .asoe) r
 
   paid : ℕ → EnergyRow → ℕ
   paid g r = cond (eqb (factorOf (k .factors) g) 0) 0 (sharesIn g r)
 
-  one : (g : ℕ) → g < 5 → (i : ℕ) → i < B .header .energies → bitSet (2 ^ g) (B .energy i .region) ≡ eqb (B .energy i .region) g
-  one g m i l = one-region g (B .energy i .region) m (low i l)
+  one : (g : ℕ) → g < 5 → (i : ℕ) → i < E .rows → bitSet (2 ^ g) (E .row i .region) ≡ eqb (E .row i .region) g
+  one g m i l = one-region g (E .row i .region) m (low i l)
 
   -- what all accounts pay in region g is what its rows pay
-  region-rows : (g : ℕ) → g < 5 → regionPaid B k g ≡ totalOf (regionOf (B .energy)) g (λ i. paid g (B .energy i)) (B .header .energies)
-  unfolding regionPaid consumedPart sentPart byBasis paid keyed
+  region-rows : (g : ℕ) → g < 5 → regionPaid E k g ≡ totalOf (regionOf (E .row)) g (λ i. paid g (E .row i)) (E .rows)
+  unfolding regionPaid consumedPart sentPart paid keyed
   region-rows g m = by (eqb (factorOf (k .factors) g) 0)
     where
-      by : (t : Bool) → cond t 0 (partSum (consumedPart (B .entry) k g) (B .energy) (B .header .energies) + partSum (sentPart (B .entry) k g) (B .energy) (B .header .energies)) ≡ totalOf (regionOf (B .energy)) g (λ i. cond t 0 (sharesIn g (B .energy i))) (B .header .energies)
-      by true = total-zero _ (B .header .energies) (λ i l. choice-none (eqb (B .energy i .region) g))
+      by : (t : Bool) → cond t 0 (partSum (consumedPart (E .entry) k g) (E .row) (E .rows) + partSum (sentPart (E .entry) k g) (E .row) (E .rows)) ≡ totalOf (regionOf (E .row)) g (λ i. cond t 0 (sharesIn g (E .row i))) (E .rows)
+      by true = total-zero _ (E .rows) (λ i l. choice-none (eqb (E .row i .region) g))
       by false =
-          ap₂ _+_ (part-rows _ (B .energy) (B .header .energies) g (sorted p) (one g m)) (part-rows _ (B .energy) (B .header .energies) g (sorted p) (one g m))
-          ∙ sym (keyed-plus _ g _ _ (B .header .energies))
+          ap₂ _+_ (part-rows _ (E .row) (E .rows) g (sorted p) (one g m)) (part-rows _ (E .row) (E .rows) g (sorted p) (one g m))
+          ∙ sym (keyed-plus _ g _ _ (E .rows))
 
   -- and over all regions it is what each row pays in its own
-  all-rows : total (regionPaid B k) 5 ≡ total (λ i. paid (B .energy i .region) (B .energy i)) (B .header .energies)
+  all-rows : total (regionPaid E k) 5 ≡ total (λ i. paid (E .row i .region) (E .row i)) (E .rows)
   all-rows =
       total-same _ _ 5 region-rows
-      ∙ total-swap (λ g i. keyed (regionOf (B .energy)) g (λ i. paid g (B .energy i)) i) (B .header .energies) 5
-      ∙ total-same _ _ (B .header .energies) own
+      ∙ total-swap (λ g i. keyed (regionOf (E .row)) g (λ i. paid g (E .row i)) i) (E .rows) 5
+      ∙ total-same _ _ (E .rows) own
     where
-      own : (i : ℕ) → i < B .header .energies → total (λ g. keyed (regionOf (B .energy)) g (λ i. paid g (B .energy i)) i) 5 ≡ paid (B .energy i .region) (B .energy i)
+      own : (i : ℕ) → i < E .rows → total (λ g. keyed (regionOf (E .row)) g (λ i. paid g (E .row i)) i) 5 ≡ paid (E .row i .region) (E .row i)
       own i l =
-          total-only _ (B .energy i .region) 5 (low i l) (λ g m d. keyed-miss (regionOf (B .energy)) g (λ i. paid g (B .energy i)) i (λ q. d (sym q)))
-          ∙ sym (keyed-hit (regionOf (B .energy)) (B .energy i .region) (λ j. paid (B .energy i .region) (B .energy j)) i refl)
+          total-only _ (E .row i .region) 5 (low i l) (λ g m d. keyed-miss (regionOf (E .row)) g (λ i. paid g (E .row i)) i (λ q. d (sym q)))
+          ∙ sym (keyed-hit (regionOf (E .row)) (E .row i .region) (λ j. paid (E .row i .region) (E .row j)) i refl)
 
   -- a row has no more than its region
-  within : (f : ℕ → ℕ) (i : ℕ) {t : ℕ} → i < B .header .energies → t ≡ totalOf (regionOf (B .energy)) (B .energy i .region) f (B .header .energies) → f i ≤ t
+  within : (f : ℕ → ℕ) (i : ℕ) {t : ℕ} → i < E .rows → t ≡ totalOf (regionOf (E .row)) (E .row i .region) f (E .rows) → f i ≤ t
   within f i l e =
-      rw (e, keyed-hit (regionOf (B .energy)) (B .energy i .region) f i refl) (total-has (keyed (regionOf (B .energy)) (B .energy i .region) f) (B .header .energies) i l)
+      rw (e, keyed-hit (regionOf (E .row)) (E .row i .region) f i refl) (total-has (keyed (regionOf (E .row)) (E .row i .region) f) (E .rows) i l)
 
-  -- the two halves of a region that benefits can be shared
-  benefits : (g : ℕ) → (factorOf (k .factors) g ≡ 0 → ⊥) → factorOf (B .contract (o .place) .factors) g ≡ 0 → ⊥
-  benefits g d z = d (ap (λ (k : Contract). factorOf (k .factors) g) (o .same) ∙ z)
-
-  consumed-fits : (g : ℕ) → g < 5 → (factorOf (k .factors) g ≡ 0 → ⊥) → Shareable (consumedPart (B .entry) k g) (B .energy) (B .header .energies)
-  consumed-fits g m d = rw (o .same) (consumed-shareable p (o .place) g (o .within) m (benefits g d))
-
-  sent-fits : (g : ℕ) → g < 5 → (factorOf (k .factors) g ≡ 0 → ⊥) → Shareable (sentPart (B .entry) k g) (B .energy) (B .header .energies)
-  sent-fits g m d = rw (o .same) (sent-shareable p (o .place) g (o .within) m (benefits g d))
-
-  fair : {x : Part} → Shareable x (B .energy) (B .header .energies) → {half own whole : ℕ} → half ≡ x .amount → whole ≡ x .whole → own ≤ x .whole → Fair half own whole
+  fair : {x : Part} → Shareable x (E .row) (E .rows) → {half own whole : ℕ} → half ≡ x .amount → whole ≡ x .whole → own ≤ x .whole → Fair half own whole
   fair h e q w = rw (e, q) (record { small = h .small; within = w; above = h .above; below = h .below })
 
   -- c and s have the halves of the payment, a and t the totals
-  module _ {c s a t : List ℕ} (l : ListsAre B k 5 c s a t) where
-    pub rows-pay : total (λ i. rowPays (k .factors) c s a t (B .energy i)) (B .header .energies) ≡ total (regionPaid B k) 5
+  module _ {c s a t : List ℕ} (l : ListsAre (E .entry) k 5 c s a t) where
+    rows-pay : total (λ i. rowPays (k .factors) c s a t (E .row i)) (E .rows) ≡ total (regionPaid E k) 5
     unfolding rowPays paid
     rows-pay =
-        total-same _ _ (B .header .energies) (λ i m. let h = low i m in rw (l .consumed .each _ h, l .sent .each _ h, l .ace .each _ h, l .asoe .each _ h))
+        total-same _ _ (E .rows) (λ i m. let h = low i m in rw (l .consumed .each _ h, l .sent .each _ h, l .ace .each _ h, l .asoe .each _ h))
         ∙ sym all-rows
 
-    row-payable : (i : ℕ) → i < B .header .energies → Payable (k .factors) c s a t (B .energy i)
+    -- what the rows pay is what all accounts pay
+    pub charges-are : {x : ℕ} → (x ≡ total (λ i. rowPays (k .factors) c s a t (E .row i)) (E .rows)) × (x ≤ 102_400_000_000_000) → (x ≡ total (regionPaid E k) 5) × (x ≤ 102_400_000_000_000)
+    charges-are w = (w .0 ∙ rows-pay, w .1)
+
+    row-payable : (i : ℕ) → i < E .rows → Payable (k .factors) c s a t (E .row i)
     unfolding consumedPart sentPart
     row-payable i m =
         let h = low i m in
-        let g = B .energy i .region in
+        let g = E .row i .region in
         record {
           region = h;
-          ace = λ d. fair (consumed-fits g h d) (l .consumed .each g h) (l .ace .each g h) (within (aceOf (B .energy)) i m (p .sound .entry g h .ace));
-          asoe = λ d. fair (sent-fits g h d) (l .sent .each g h) (l .asoe .each g h) (within (asoeOf (B .energy)) i m (p .sound .entry g h .asoe));
+          ace = λ d. fair (consumed-shareable p o g h d) (l .consumed .each g h) (l .ace .each g h) (within (energyOf Ace (E .row)) i m (p .sums g h .each Ace));
+          asoe = λ d. fair (sent-shareable p o g h d) (l .sent .each g h) (l .asoe .each g h) (within (energyOf Asoe (E .row)) i m (p .sums g h .each Asoe));
         }
 
-    pub all-payable : AllPayable (k .factors) c s a t (B .energy) (B .header .energies)
-    all-payable = record { few = p .sound .few .energies; row = row-payable }
-
--- ---- where the energy rows stand; e is where they start
-
-module _ (b : List ℕ) (h : Header) (e : ℕ) (q : e ≡ energiesFrom h) (p : Promise (bookIn b h)) (k : Contract) (o : OfContract (bookIn b h) k) {c s a t : List ℕ} (l : ListsAre (bookIn b h) k 5 c s a t) where
-  pub payable-at : AllPayable (k .factors) c s a t (energyRow (partFrom e b)) (h .energies)
-  payable-at = rw q (all-payable p k o l)
-
-  pub charges-are : {x : ℕ} → (x ≡ total (λ i. rowPays (k .factors) c s a t (energyRow (partFrom e b) i)) (h .energies)) × (x ≤ 102_400_000_000_000) → (x ≡ total (regionPaid (bookIn b h) k) 5) × (x ≤ 102_400_000_000_000)
-  charges-are w = (rw q at (w .0) ∙ rows-pay p k o l, w .1)
+    pub all-payable : AllPayable (k .factors) c s a t (E .row) (E .rows)
+    all-payable = record { few = p .few; row = row-payable }
 
 -- ---- how many regions benefit, and what is paid in all
 
@@ -201,7 +179,7 @@ module _ (b : List ℕ) (h : Header) (e : ℕ) (q : e ≡ energiesFrom h) (p : P
 abbrev Benefit : ℕ → ℕ → Type 0
 Benefit factor x = (x ≡ cond (eqb factor 0) 0 1) × (x ≤ 1)
 
-pub paid-is : (B : Book) (k : Contract) {u v w x y z : ℕ} → Benefit (factorOf (k .factors) 0) u → Benefit (factorOf (k .factors) 1) v → Benefit (factorOf (k .factors) 2) w → Benefit (factorOf (k .factors) 3) x → Benefit (factorOf (k .factors) 4) y → (z ≡ total (regionPaid B k) 5) × (z ≤ 102_400_000_000_000) → PaidIs B k (record { regions = u + v + w + x + y; charge = z })
+pub paid-is : (E : Energies) (k : Contract) {u v w x y z : ℕ} → Benefit (factorOf (k .factors) 0) u → Benefit (factorOf (k .factors) 1) v → Benefit (factorOf (k .factors) 2) w → Benefit (factorOf (k .factors) 3) x → Benefit (factorOf (k .factors) 4) y → (z ≡ total (regionPaid E k) 5) × (z ≤ 102_400_000_000_000) → PaidIs E k (record { regions = u + v + w + x + y; charge = z })
 unfolding benefiting
-paid-is B k u v w x y z =
+paid-is E k u v w x y z =
     record { regions = rw (u .0, v .0, w .0, x .0, y .0) (sym (total-five _)); charge = z .0; few = omega arith; small = z .1 }

@@ -39,7 +39,6 @@ use Rattle.balance.specs.Pools.{Pool, constraintPool, contractPool, hasP
 use Rattle.balance.specs.Inner.Shapes.{belongs, aboveBy, belowBy, poolBy, creditBy, chargeBy, partOf, consumedPart, sentPart}
 use Rattle.balance.specs.declared.kinds.Kind.{Kind}
 use Rattle.balance.specs.declared.kinds.Kind.the-variants.{Contingency, Fpp, Used, Unused, Payment}
-use Rattle.balance.proofs.Energy.{entryBy}
 use Rattle.balance.proofs.Own.{ownOf, own-entry, own-constraint, own-region}
 use Rattle.balance.proofs.Kept.{Kept, kept-none, kept-in, kept-out, kept-append, kept-before, kept-behind, kept-either, kept-unless, kept-both, kept-joined, kept-nothing, kept-only}
 
@@ -219,7 +218,7 @@ module _ {B : Book} (p : Promise B) (a : ℕ) where
   constraint-share r amount = ap (λ (x : ℕ). roundN (amount * x) (overRegions (B .entry) r)) (own-constraint p a r amount)
 
   region-shares : (k : Contract) (g : ℕ) → g < 5 → roundN (halvesOf (k .payment) (factorOf (k .factors) g) .consumed * entryOf (ownOf B a) g .ace) (B .entry g .ace) + roundN (halvesOf (k .payment) (factorOf (k .factors) g) .sent * entryOf (ownOf B a) g .asoe) (B .entry g .asoe) ≡ regionShare B a k g
-  unfolding shareIn consumedPart sentPart entryBy
+  unfolding shareIn consumedPart sentPart
   region-shares k g l =
       ap₂ _+_
       (ap (λ (x : ℕ). roundN (halvesOf (k .payment) (factorOf (k .factors) g) .consumed * x) (B .entry g .ace)) (own-region p a (consumedPart (B .entry) k g) g l refl))

@@ -1,19 +1,23 @@
 -- What the functions of each kind of pool need to know: sections where they stand in the book, and what an accepted book gives. Assumes nothing.
-use Prim.Native.Nat.{ℕ, _+_, _*_, _≤_}
-use mathlib.Core.Path.{_≡_}
+use Prim.Native.Nat.{ℕ, _+_, _*_, _≤_, _<_}
+use mathlib.Core.Path.{_≡_, subst}
 use mathlib.Core.Bool.{true, false}
 use mathlib.Core.List.{List}
 use native.Mathlib.Omega.{arith}
 use lib.IntN.{ℤ, pos}
-use lib.ListN.{length}
+use lib.ListN.{length, length-drop}
 use Rattle.ground.specs.Bytes.{partFrom}
 use Rattle.numbers.specs.Sign.{less}
+use Rattle.ground.proofs.Part.{part-drop}
 use Rattle.records.specs.Rows.{unitRow, energyRow}
 use Rattle.rules.specs.Inner.Facts.{ConstraintRule}
-use Rattle.market.specs.Kinds.{raises, regulates}
+use Rattle.market.specs.Kinds.{basisOf}
+use Rattle.market.specs.declared.Basis.{Basis}
 use Rattle.records.specs.declared.rows.Constraint.{Constraint}
 use Rattle.records.specs.declared.rows.Contract.{Contract}
 use Rattle.totals.specs.Divisors.{overRegions}
+use Rattle.totals.specs.Inner.Energies.{Energies, energiesIn, PartLaid, Sound}
+use Rattle.totals.specs.declared.entries.EnergyPart.{EnergyPart}
 use Rattle.book.specs.Book.{Book, bookIn}
 use Rattle.book.specs.Header.{unitsFrom, energiesFrom}
 use Rattle.book.specs.Inner.Accepted.{Promise}
@@ -22,15 +26,15 @@ use Rattle.amounts.specs.Inner.Bounds.{SmallPools}
 use Rattle.amounts.specs.Pools.{poolsOf}
 use Rattle.amounts.specs.declared.pools.Pools.{Pools}
 use Rattle.amounts.proofs.Sizes.{pools-small, residual-small}
+use Rattle.accounts.specs.Inner.Energies.{energiesOf, PartOf}
+use Rattle.accounts.proofs.Parts.{sound-of, part-energies}
 use Rattle.sharing.specs.Accounts.{accountsIn}
 use Rattle.sharing.specs.Inner.Shares.{partSum, Sorted, Shareable}
-use Rattle.sharing.specs.declared.shares.Basis.{Basis}
-use Rattle.sharing.specs.declared.shares.Basis.the-variants as basis
 use Rattle.sharing.specs.declared.shares.Part.{Part}
 use Rattle.balance.specs.Pools.{recovers}
-use Rattle.balance.specs.Inner.Shapes.{poolBy, recoveryOf, constraintBasis, partOf, contingencyShape, regulationShape, contractShape}
+use Rattle.balance.specs.Inner.Shapes.{poolBy, recoveryOf, partOf, contingencyShape, regulationShape, contractShape}
 use Rattle.balance.specs.Inner.Units.{SumsAre}
-use Rattle.balance.specs.Inner.Rests.{OfConstraint, OfContract, Counted, PartIs, PaidIs}
+use Rattle.balance.specs.Inner.Rests.{OfConstraint, Counted, PartIs, PaidIs}
 use Rattle.balance.specs.declared.kinds.Kind.{Kind}
 use Rattle.balance.specs.declared.kinds.Kind.the-variants.{Contingency, Fpp, Used, Unused, Payment}
 use Rattle.balance.specs.declared.kinds.Recovery.{Recovery}
@@ -42,48 +46,38 @@ use Rattle.balance.proofs.Shareables.{credit-low, charge-low, sorted, c
 
 module _ (b : List ℕ) (h : Header) (e : ℕ) (q : e ≡ energiesFrom h) where
   pub sorted-at : Promise (bookIn b h) → Sorted (energyRow (partFrom e b)) (h .energies)
-  sorted-at p = rw q (sorted p)
-
-  pub shareable-at : (p : Part) → Shareable p (bookIn b h .energy) (h .energies) → Shareable p (energyRow (partFrom e b)) (h .energies)
-  shareable-at p s = rw q s
-
-  pub shared-is : (p : Part) {x : ℕ} → (x ≡ partSum p (energyRow (partFrom e b)) (h .energies)) × (x ≤ 51_200_000_000_000) → (x ≡ partSum p (bookIn b h .energy) (h .energies)) × (x ≤ 51_200_000_000_000)
-  shared-is p s = (rw q at (s .0), s .1)
+  sorted-at p = rw q (sorted (sound-of p))
 
   pub counted-is : (u : ℕ) → u ≡ unitsFrom h → {c : ℕ} → (c ≡ length (accountsIn (energyRow (partFrom e b)) (h .energies) (unitRow (partFrom u b)) (h .units))) × (c ≤ 1624) → Counted (bookIn b h) c
   counted-is u w s = record { all = rw (q, w) at (s .0); few = s .1 }
 
+-- what is shared by the energies of the part is shared by the book's
+pub part-in : (b : List ℕ) (h : Header) {p : EnergyPart} → PartOf h p → {r : Constraint} {amount x : ℕ} → PartIs (energiesIn (partFrom 24 b) p) r amount x → PartIs (energiesOf (bookIn b h)) r amount x
+part-in b h {p} q {r} {amount} {x} s = subst (λ (E : Energies). PartIs E r amount x) (part-energies b h p q) s
+
+-- the energy rows lie in the bytes
+pub rows-room : (s : List ℕ) (p : EnergyPart) → PartLaid s p → p .rows * 24 ≤ length (partFrom (p .from) s)
+rows-room s p d = rw (part-drop (p .from) s, length-drop (p .from) s) (omega (arith, d .rows))
+
 -- ---- a constraint
-
--- by which energy it is shared; t says whether it is regulation, s whether it raises
-module _ (r : Constraint) where
-  pub by-residual : regulates (r .service) ≡ true → basis.Residual ≡ constraintBasis r
-  unfolding constraintBasis
-  by-residual t = rw t
-
-  module _ (t : regulates (r .service) ≡ false) where
-    pub by-asoe : raises (r .service) ≡ true → basis.Asoe ≡ constraintBasis r
-    unfolding constraintBasis
-    by-asoe s = rw (t, s)
-
-    pub by-ace : raises (r .service) ≡ false → basis.Ace ≡ constraintBasis r
-    unfolding constraintBasis
-    by-ace s = rw (t, s)
 
 module _ {B : Book} (p : Promise B) (r : Constraint) (o : OfConstraint B r) where
   pub constraint-rule : ConstraintRule r
   constraint-rule = rw (o .same) (p .sound .fields .constraints (o .place) (o .within))
 
-  module _ (amount whole : ℕ) (basis : Basis) (w : whole ≡ overRegions (B .entry) r) (e : basis ≡ constraintBasis r) where
-    part-is : record { amount = amount; whole = whole; mask = r .mask; basis = basis } ≡ partOf (B .entry) r amount
-    unfolding partOf
-    part-is = rw (w, e)
+  pub constraint-divides : 0 < overRegions (B .entry) r
+  constraint-divides = rw (o .same) (p .divisor (o .place) (o .within))
 
-    pub over-shareable : amount ≤ 50_000_000_000 → Shareable (record { amount = amount; whole = whole; mask = r .mask; basis = basis }) (B .energy) (B .header .energies)
-    over-shareable s = rw part-is (rw (o .same) (constraint-shareable p (o .place) (o .within) amount s))
+module _ {E : Energies} (p : Sound E) (r : Constraint) (amount whole : ℕ) (basis : Basis) (w : whole ≡ overRegions (E .entry) r) (e : basis ≡ basisOf (r .service)) where
+  part-is : record { amount = amount; whole = whole; mask = r .mask; basis = basis } ≡ partOf (E .entry) r amount
+  unfolding partOf
+  part-is = rw (w, e)
 
-    pub over-is : {x : ℕ} → (x ≡ partSum (record { amount = amount; whole = whole; mask = r .mask; basis = basis }) (B .energy) (B .header .energies)) × (x ≤ 51_200_000_000_000) → PartIs B r amount x
-    over-is s = record { sum = rw part-is at (s .0); small = s .1 }
+  pub over-shareable : 0 < whole → amount ≤ 50_000_000_000 → Shareable (record { amount = amount; whole = whole; mask = r .mask; basis = basis }) (E .row) (E .rows)
+  over-shareable a s = rw part-is (constraint-shareable p r amount (rw w at a) s)
+
+  pub over-is : {x : ℕ} → (x ≡ partSum (record { amount = amount; whole = whole; mask = r .mask; basis = basis }) (E .row) (E .rows)) × (x ≤ 51_200_000_000_000) → PartIs E r amount x
+  over-is s = record { sum = rw part-is at (s .0); small = s .1 }
 
 -- ---- what a regulation pool rests on is small
 
@@ -118,19 +112,15 @@ recovery-small r kind c e =
 
 -- ---- the balance of each kind of pool
 
-module _ (B : Book) (count : ℕ) (n : Counted B count) where
-  module _ (r : Constraint) where
-    pub contingency-is : {a s : ℤ} {x : ℕ} → a ≡ pos (r .cost) → PartIs B r (r .cost) x → s ≡ less 0 x → record { amount = a; lines = count; sum = s } ≡ contingencyShape B r
-    unfolding contingencyShape
-    contingency-is a x s = rw (a, n .all, s, x .sum)
+module _ (E : Energies) (count : ℕ) where
+  pub contingency-is : (r : Constraint) {a s : ℤ} {x : ℕ} → a ≡ pos (r .cost) → PartIs E r (r .cost) x → s ≡ less 0 x → record { amount = a; lines = count; sum = s } ≡ contingencyShape E count r
+  unfolding contingencyShape
+  contingency-is r a x s = rw (a, s, x .sum)
 
-    pub regulation-is : (kind : Kind) (x : Recovery) → x ≡ recoveryOf r kind → {u : UnitSums} → SumsAre (B .unit) (B .header .units) (r .id) kind (x .pool) (B .header .units) u → {y z : ℕ} → PartIs B r (x .credit) y → PartIs B r (x .charge) z → {a s : ℤ} → a ≡ pos (x .amount) → s ≡ less (u .credit + y) (u .charge + z) → record { amount = a; lines = u .rows + count; sum = s } ≡ regulationShape B r kind
-    unfolding regulationShape recoveryOf
-    regulation-is kind x e u y z a s = rw (a, s, n .all, u .rows, u .credit, u .charge, y .sum, z .sum, e)
-
-  pub contract-payment : Promise B → (k : Contract) → OfContract B k → k .payment ≤ 50_000_000_000
-  contract-payment p k o = rw (o .same) (p .sound .fields .contracts (o .place) (o .within) .payment)
-
-  pub contract-is : (k : Contract) {x : Paid} → PaidIs B k x → {a s : ℤ} → a ≡ pos (k .payment) → s ≡ less 0 (x .charge) → record { amount = a; lines = x .regions * (2 * count); sum = s } ≡ contractShape B k
+  pub contract-is : (k : Contract) {x : Paid} → PaidIs E k x → {a s : ℤ} → a ≡ pos (k .payment) → s ≡ less 0 (x .charge) → record { amount = a; lines = x .regions * (2 * count); sum = s } ≡ contractShape E count k
   unfolding contractShape
-  contract-is k p a s = rw (a, s, n .all, p .regions, p .charge)
+  contract-is k p a s = rw (a, s, p .regions, p .charge)
+
+pub regulation-is : (B : Book) (count : ℕ) → Counted B count → (r : Constraint) (kind : Kind) (x : Recovery) → x ≡ recoveryOf r kind → {u : UnitSums} → SumsAre (B .unit) (B .header .units) (r .id) kind (x .pool) (B .header .units) u → {y z : ℕ} → PartIs (energiesOf B) r (x .credit) y → PartIs (energiesOf B) r (x .charge) z → {a s : ℤ} → a ≡ pos (x .amount) → s ≡ less (u .credit + y) (u .charge + z) → record { amount = a; lines = u .rows + count; sum = s } ≡ regulationShape B r kind
+unfolding regulationShape recoveryOf
+regulation-is B count n r kind x e u y z a s = rw (a, s, n .all, u .rows, u .credit, u .charge, y .sum, z .sum, e)

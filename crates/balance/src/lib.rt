@@ -15,6 +15,7 @@ ghost use Rattle.balance.specs.Inner.Shapes.{belongs};
 ghost use mathlib.Core.Bool.{true};
 use crate::kinds::Kind;
 use crate::places::Place;
+use accounts::energies;
 use book::header;
 use book::header::Header;
 use market::Mode;
@@ -44,7 +45,7 @@ fn constraint_balance(book: &[u8], h: Header, j: usize, kind: Kind) -> Balance
     let r = rows::constraint_row(&book[84..], j);
     let count = pools::accounts(book, h);
     if r.mode == Mode::CONTINGENCY {
-        return pools::contingency(book, h, r, count);
+        return pools::contingency(&book[24..], energies::part_of(h), r, count);
     }
     pools::regulation(book, h, r, kind, count)
 }
@@ -59,7 +60,7 @@ fn contract_balance(book: &[u8], h: Header, i: usize) -> Balance
     let from = h.contracts_at();
     let k = rows::contract_row(&book[from..], i);
     let count = pools::accounts(book, h);
-    pools::contract(book, h, k, count)
+    pools::contract(&book[24..], energies::part_of(h), k, count)
 }
 
 // The balance of the pool of a number in an accepted book, or 15.

@@ -6,21 +6,24 @@ ghost use lib.Dec.{eqb};
 ghost use lib.ListN.{length};
 ghost use Rattle.ground.specs.Units.{moneyLimit};
 ghost use Rattle.sections.specs.Total.{total};
-ghost use Rattle.records.specs.Rows.{energyRow};
+ghost use Rattle.records.specs.Rows.{entryRow, energyRow};
 ghost use Rattle.totals.specs.Divisors.{overRegions};
+ghost use Rattle.totals.specs.Inner.Energies.{energiesIn, PartLaid, Sound};
 ghost use Rattle.book.specs.Book.{bookIn};
 ghost use Rattle.book.specs.Inner.Facts.{Laid};
 ghost use Rattle.book.specs.Inner.Accepted.{Promise};
 ghost use Rattle.sharing.specs.Inner.Shares.{partSum, Shareable};
-ghost use Rattle.balance.specs.Inner.Shapes.{constraintBasis, regionPaid, contingencyShape, regulationShape, contractShape};
-ghost use Rattle.balance.specs.Inner.Rests.{OfConstraint, OfContract, PartIs, Counted, PaidIs, ListsAre, Payable, AllPayable, rowPays};
+ghost use Rattle.balance.specs.Inner.Shapes.{regionPaid, contingencyShape, regulationShape, contractShape};
+ghost use Rattle.balance.specs.Inner.Rests.{OfConstraint, PartIs, PaidBy, Counted, PaidIs, ListsAre, Payable, AllPayable, rowPays};
 use crate::Balance;
 use crate::kinds;
 use crate::kinds::Kind;
 use crate::units;
+use accounts::energies;
 use amounts::pools;
 use amounts::shares;
 use book::header::Header;
+use market::Basis;
 use market::Region;
 use market::Service;
 use numbers::sign;
@@ -28,9 +31,9 @@ use records::rows;
 use records::rows::Constraint;
 use records::rows::Contract;
 use records::rows::EnergyRow;
-use sharing::shares::Basis;
 use sharing::shares::Part;
 use totals::divisors;
+use totals::entries::EnergyPart;
 
 // How many accounts the book has.
 pub(crate) fn accounts(book: &[u8], h: Header) -> usize
@@ -49,41 +52,27 @@ pub(crate) fn accounts(book: &[u8], h: Header) -> usize
 }
 
 // What a part of a pool comes to over all accounts.
-fn shared(book: &[u8], h: Header, p: Part) -> u64
-    requires { ⌜ Laid (now book) h ⌝ }
-    requires { ⌜ Promise (bookIn (now book) h) ⌝ }
-    requires { ⌜ Shareable p (bookIn (now book) h .energy) (h .energies) ⌝ }
-    ensures { λ x. ⌜ (x ≡ partSum p (bookIn (now (book .entry)) h .energy) (h .energies)) × (x ≤ 51_200_000_000_000) ⌝ }
+fn shared(bytes: &[u8], e: EnergyPart, p: Part) -> u64
+    requires { ⌜ PartLaid (now bytes) e ⌝ }
+    requires { ⌜ Sound (energiesIn (now bytes) e) ⌝ }
+    requires { ⌜ Shareable p (energiesIn (now bytes) e .row) (e .rows) ⌝ }
+    ensures { λ x. ⌜ (x ≡ partSum p (energiesIn (now (bytes .entry)) e .row) (e .rows)) × (x ≤ 51_200_000_000_000) ⌝ }
 {
-    let energies = h.energies_at();
-    sharing::shares::part_sum(&book[energies..], h.energies as usize, p)
-}
-
-// By which energy a constraint's cost is shared.
-fn basis_of(r: Constraint) -> Basis
-    ensures { λ x. ⌜ x ≡ constraintBasis r ⌝ }
-{
-    if Service::of(r.service).is_regulation() {
-        return Basis::Residual;
-    }
-    if Service::of(r.service).is_raise() {
-        return Basis::Asoe;
-    }
-    Basis::Ace
+    let from = e.from;
+    sharing::shares::part_sum(&bytes[from..], e.rows, p)
 }
 
 // What an amount that is shared over a constraint's regions comes to over all accounts.
-fn over_regions(book: &[u8], h: Header, r: Constraint, whole: u64, amount: u64) -> u64
-    requires { ⌜ Laid (now book) h ⌝ }
-    requires { ⌜ Promise (bookIn (now book) h) ⌝ }
-    requires { ⌜ OfConstraint (bookIn (now book) h) r ⌝ }
-    requires { ⌜ (whole ≡ overRegions (bookIn (now book) h .entry) r) × (amount ≤ moneyLimit) ⌝ }
-    ensures { λ x. ⌜ PartIs (bookIn (now (book .entry)) h) r amount x ⌝ }
+fn over_regions(bytes: &[u8], e: EnergyPart, r: Constraint, whole: u64, amount: u64) -> u64
+    requires { ⌜ PartLaid (now bytes) e ⌝ }
+    requires { ⌜ Sound (energiesIn (now bytes) e) ⌝ }
+    requires { ⌜ (whole ≡ overRegions (energiesIn (now bytes) e .entry) r) × ((0 < whole) × (amount ≤ moneyLimit)) ⌝ }
+    ensures { λ x. ⌜ PartIs (energiesIn (now (bytes .entry)) e) r amount x ⌝ }
 {
-    let basis = basis_of(r);
+    let basis = Basis::of(Service::of(r.service));
     shared(
-        book,
-        h,
+        bytes,
+        e,
         Part {
             amount,
             whole,
@@ -94,15 +83,14 @@ fn over_regions(book: &[u8], h: Header, r: Constraint, whole: u64, amount: u64) 
 }
 
 // A contingency pool: a line of each account.
-pub(crate) fn contingency(book: &[u8], h: Header, r: Constraint, count: usize) -> Balance
-    requires { ⌜ Laid (now book) h ⌝ }
-    requires { ⌜ Promise (bookIn (now book) h) ⌝ }
-    requires { ⌜ OfConstraint (bookIn (now book) h) r ⌝ }
-    requires { ⌜ Counted (bookIn (now book) h) count ⌝ }
-    ensures { λ x. ⌜ x ≡ contingencyShape (bookIn (now (book .entry)) h) r ⌝ }
+pub(crate) fn contingency(bytes: &[u8], e: EnergyPart, r: Constraint, count: usize) -> Balance
+    requires { ⌜ PartLaid (now bytes) e ⌝ }
+    requires { ⌜ Sound (energiesIn (now bytes) e) ⌝ }
+    requires { ⌜ (0 < overRegions (energiesIn (now bytes) e .entry) r) × (r .cost ≤ moneyLimit) ⌝ }
+    ensures { λ x. ⌜ x ≡ contingencyShape (energiesIn (now (bytes .entry)) e) count r ⌝ }
 {
-    let whole = divisors::divisor(&book[24..], r);
-    let charge = over_regions(book, h, r, whole, r.cost);
+    let whole = divisors::divisor(bytes, r);
+    let charge = over_regions(bytes, e, r, whole, r.cost);
     Balance {
         amount: sign::signed(false, r.cost),
         lines: count,
@@ -121,9 +109,11 @@ pub(crate) fn regulation(book: &[u8], h: Header, r: Constraint, kind: Kind, coun
     let x = kinds::recovery_of(r, kind);
     let from = h.units_at();
     let u = units::unit_sums(&book[from..], h.units as usize, r.id, kind, x.pool);
-    let whole = divisors::divisor(&book[24..], r);
-    let credit = over_regions(book, h, r, whole, x.credit);
-    let charge = over_regions(book, h, r, whole, x.charge);
+    let bytes = &book[24..];
+    let e = energies::part_of(h);
+    let whole = divisors::divisor(bytes, r);
+    let credit = over_regions(bytes, e, r, whole, x.credit);
+    let charge = over_regions(bytes, e, r, whole, x.charge);
     Balance {
         amount: sign::signed(false, x.amount),
         lines: u.rows + count,
@@ -133,8 +123,7 @@ pub(crate) fn regulation(book: &[u8], h: Header, r: Constraint, kind: Kind, coun
 
 // The two halves of a contract's payment in region g, and the region's totals, each in its list.
 fn fill(
-    book: &[u8],
-    h: Header,
+    bytes: &[u8],
     k: Contract,
     g: usize,
     consumed: &mut [u64; 5],
@@ -142,15 +131,13 @@ fn fill(
     ace: &mut [u64; 5],
     asoe: &mut [u64; 5],
 )
-    requires { ⌜ Laid (now book) h ⌝ }
-    requires { ⌜ Promise (bookIn (now book) h) ⌝ }
-    requires { ⌜ OfContract (bookIn (now book) h) k ⌝ }
-    requires { ⌜ (g < 5) × ListsAre (bookIn (now book) h) k g (now consumed) (now sent) (now ace) (now asoe) ⌝ }
-    ensures { λ _. ⌜ ListsAre (bookIn (now (book .entry)) h) k (g + 1) (now (consumed .exit)) (now (sent .exit)) (now (ace .exit)) (now (asoe .exit)) ⌝ }
+    requires { ⌜ (60 ≤ length (now bytes)) × PaidBy (entryRow (now bytes)) k ⌝ }
+    requires { ⌜ (g < 5) × ListsAre (entryRow (now bytes)) k g (now consumed) (now sent) (now ace) (now asoe) ⌝ }
+    ensures { λ _. ⌜ ListsAre (entryRow (now (bytes .entry))) k (g + 1) (now (consumed .exit)) (now (sent .exit)) (now (ace .exit)) (now (asoe .exit)) ⌝ }
 {
     let factors = k.factors;
     let x = pools::halves_of(k.payment, factors[g]);
-    let e = rows::entry_row(&book[24..], g);
+    let e = rows::entry_row(bytes, g);
     consumed[g] = x.consumed;
     sent[g] = x.sent;
     ace[g] = e.ace as u64;
@@ -209,11 +196,11 @@ fn pays(
 }
 
 // What all accounts pay in the regions that a contract benefits.
-fn charges(book: &[u8], h: Header, k: Contract) -> u64
-    requires { ⌜ Laid (now book) h ⌝ }
-    requires { ⌜ Promise (bookIn (now book) h) ⌝ }
-    requires { ⌜ OfContract (bookIn (now book) h) k ⌝ }
-    ensures { λ x. ⌜ (x ≡ total (regionPaid (bookIn (now (book .entry)) h) k) 5) × (x ≤ 102_400_000_000_000) ⌝ }
+fn charges(bytes: &[u8], e: EnergyPart, k: Contract) -> u64
+    requires { ⌜ PartLaid (now bytes) e ⌝ }
+    requires { ⌜ Sound (energiesIn (now bytes) e) ⌝ }
+    requires { ⌜ PaidBy (energiesIn (now bytes) e .entry) k ⌝ }
+    ensures { λ x. ⌜ (x ≡ total (regionPaid (energiesIn (now (bytes .entry)) e) k) 5) × (x ≤ 102_400_000_000_000) ⌝ }
 {
     let mut consumed = [0u64; 5];
     let mut sent = [0u64; 5];
@@ -221,14 +208,14 @@ fn charges(book: &[u8], h: Header, k: Contract) -> u64
     let mut asoe = [0u64; 5];
     let mut g = 0;
     while g < Region::COUNT {
-        fill(book, h, k, g, &mut consumed, &mut sent, &mut ace, &mut asoe);
+        fill(bytes, k, g, &mut consumed, &mut sent, &mut ace, &mut asoe);
         g += 1;
     }
     let factors = k.factors;
-    let energies = h.energies_at();
+    let from = e.from;
     pays(
-        &book[energies..],
-        h.energies as usize,
+        &bytes[from..],
+        e.rows,
         &factors,
         &consumed,
         &sent,
@@ -253,28 +240,27 @@ fn benefits(factor: u32) -> usize
     1
 }
 
-fn payments(book: &[u8], h: Header, k: Contract) -> Paid
-    requires { ⌜ Laid (now book) h ⌝ }
-    requires { ⌜ Promise (bookIn (now book) h) ⌝ }
-    requires { ⌜ OfContract (bookIn (now book) h) k ⌝ }
-    ensures { λ x. ⌜ PaidIs (bookIn (now (book .entry)) h) k x ⌝ }
+fn payments(bytes: &[u8], e: EnergyPart, k: Contract) -> Paid
+    requires { ⌜ PartLaid (now bytes) e ⌝ }
+    requires { ⌜ Sound (energiesIn (now bytes) e) ⌝ }
+    requires { ⌜ PaidBy (energiesIn (now bytes) e .entry) k ⌝ }
+    ensures { λ x. ⌜ PaidIs (energiesIn (now (bytes .entry)) e) k x ⌝ }
 {
     let f = k.factors;
     Paid {
         regions: benefits(f[0]) + benefits(f[1]) + benefits(f[2]) + benefits(f[3]) + benefits(f[4]),
-        charge: charges(book, h, k),
+        charge: charges(bytes, e, k),
     }
 }
 
 // A contract's pool: two lines of each account in each benefiting region.
-pub(crate) fn contract(book: &[u8], h: Header, k: Contract, count: usize) -> Balance
-    requires { ⌜ Laid (now book) h ⌝ }
-    requires { ⌜ Promise (bookIn (now book) h) ⌝ }
-    requires { ⌜ OfContract (bookIn (now book) h) k ⌝ }
-    requires { ⌜ Counted (bookIn (now book) h) count ⌝ }
-    ensures { λ x. ⌜ x ≡ contractShape (bookIn (now (book .entry)) h) k ⌝ }
+pub(crate) fn contract(bytes: &[u8], e: EnergyPart, k: Contract, count: usize) -> Balance
+    requires { ⌜ PartLaid (now bytes) e ⌝ }
+    requires { ⌜ Sound (energiesIn (now bytes) e) ⌝ }
+    requires { ⌜ PaidBy (energiesIn (now bytes) e .entry) k × (count ≤ 1624) ⌝ }
+    ensures { λ x. ⌜ x ≡ contractShape (energiesIn (now (bytes .entry)) e) count k ⌝ }
 {
-    let x = payments(book, h, k);
+    let x = payments(bytes, e, k);
     Balance {
         amount: sign::signed(false, k.payment),
         lines: x.regions * (2 * count),

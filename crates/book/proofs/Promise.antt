@@ -13,8 +13,9 @@ use Rattle.sections.proofs.Refusal.{first-held, record-held, unless-held}
 use Rattle.sections.proofs.Total.{total-under}
 use Rattle.records.specs.declared.rows.EnergyRow.{EnergyRow}
 use Rattle.factors.proofs.Said.{owner-of, whole-of, plain-of}
-use Rattle.totals.specs.Sums.{regionOf}
+use Rattle.totals.specs.Sums.{rowBy, entryWith, regionOf}
 use Rattle.totals.proofs.Said.{entry-of, divisor-of, funded-of}
+use Rattle.totals.proofs.Turns.{entry-with}
 use Rattle.book.specs.Header.{rangeTests, inRange}
 use Rattle.book.specs.Book.{Book, bookOf}
 use Rattle.book.specs.Table.{check3, check4, check7, check8, check9, check10, soundness, verdict}
@@ -39,12 +40,7 @@ own-within B account g f =
     total-under _ _ (B .header .energies) (λ i l. own-part (eqb (B .energy i .account) account) (eqb (B .energy i .region) g) (f (B .energy i)))
 
 own-of : (B : Book) → ((g : ℕ) → g < 5 → EntrySumsAt B g) → (account g : ℕ) → g < 5 → OwnAtMost B account g
-own-of B s account g l =
-    record {
-      ace = rw (s g l .ace) (own-within B account g (λ r. r .ace));
-      asoe = rw (s g l .asoe) (own-within B account g (λ r. r .asoe));
-      residual = rw (s g l .residual) (own-within B account g (λ r. r .race + r .rasoe));
-    }
+own-of B s account g l = record { each = λ b. rw (s g l .each b, entry-with (λ b. ownTotal B account g (rowBy b)) b) (own-within B account g (rowBy b)) }
 
 -- ---- 1 to 9
 

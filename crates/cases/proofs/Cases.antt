@@ -4,8 +4,8 @@ use Rattle.ground.specs.Le.{le16, le32, le64, int64}
 use Rattle.numbers.specs.Sizes.{aboveOf, belowOf}
 use Rattle.sections.specs.Total.{total}
 use Rattle.records.specs.Rows.{entryRow, constraintRow, unitRow, energyRow}
-use Rattle.market.specs.Kinds.{modeWith}
-use Rattle.totals.specs.Divisors.{basisOf, countedIn}
+use Rattle.market.specs.Kinds.{basisOf, modeWith}
+use Rattle.totals.specs.Divisors.{countedIn}
 use Rattle.book.specs.Header.{headerOf}
 use Rattle.amounts.specs.Pools.{poolsByMode, residualPools}
 use Rattle.amounts.specs.Shares.{byFactor, byEnergy}

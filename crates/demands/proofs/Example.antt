@@ -17,11 +17,11 @@ use Rattle.sections.specs.Search.{all, some}
 use Rattle.sections.specs.Total.{total, keyed}
 use Rattle.calendar.specs.Calendar.{daysIn, isDate, isPeriod}
 use Rattle.records.specs.Rows.{entryRow, constraintRow, unitRow, energyRow, contractRow}
-use Rattle.market.specs.Kinds.{modeWith}
+use Rattle.market.specs.Kinds.{basisOf, modeWith}
 use Rattle.rules.specs.Rules.{termsOk, modeFits, sharesOk}
 use Rattle.factors.specs.Naming.{namedAt}
 use Rattle.factors.specs.Factors.{factorsAt}
-use Rattle.totals.specs.Divisors.{basisOf, countedIn, constraintDivides, contractDivides}
+use Rattle.totals.specs.Divisors.{countedIn, constraintDivides, contractDivides}
 use Rattle.totals.specs.Sums.{entryHasSums}
 use Rattle.book.specs.Header.{headerOf}
 use Rattle.book.specs.Book.{bookOf}

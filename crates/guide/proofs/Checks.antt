@@ -22,14 +22,16 @@ use Rattle.ground.proofs.Every.{every, all}
 use Rattle.ground.proofs.Back.{u32-small}
 use Rattle.ground.proofs.Part.{part-bytes}
 use Rattle.numbers.proofs.Sizes.{minus-is, minus-to-zero, zero-to, either-way, less-plus, less-zero, zero-less}
-use Rattle.sections.specs.Total.{keyed, totalOf}
+use Rattle.sections.specs.Total.{keyed}
+use Rattle.market.specs.declared.Basis.{Basis}
+use Rattle.market.specs.declared.Basis.the-variants.{Ace, Asoe, Residual}
 use Rattle.sections.specs.declared.Verdict.the-variants.{Accepted}
 use Rattle.sections.proofs.Search.{all-each, all-of}
 use Rattle.records.specs.Rows.{entryRow, constraintRow, unitRow, energyRow, contractRow}
 use Rattle.records.specs.declared.rows.Constraint.{Constraint}
 use Rattle.factors.specs.Naming.{keyOf}
 use Rattle.factors.specs.Factors.{factorsOk, sumOver, noFactor, factorsAt}
-use Rattle.totals.specs.Sums.{regionOf, aceOf, asoeOf, teOf, sumTests, entryHasSums}
+use Rattle.totals.specs.Sums.{sumIn, sumTests, entryHasSums}
 use Rattle.book.specs.Header.{headerOf, unitsFrom, energiesFrom, contractsFrom}
 use Rattle.book.specs.Book.{bookOf}
 use Rattle.book.specs.Inner.Facts.{Fields}
@@ -280,35 +282,35 @@ check-8-is-the-guides b a e j l = let f = fields-of (bookOf b) e refl in (factor
 
 module _ (b : List ℕ) (a : AreBytes b) (f : Fields (bookOf b)) (g : ℕ) (l : g < 5) where
   -- the sums of its rows' ACE, ASOE and residual energy, by their sizes
-  abbrev inRegion : (ℕ → ℕ) → ℕ
-  inRegion x = totalOf (regionOf (bookOf b .energy)) g x (headerOf b .energies)
+  abbrev inRegion : Basis → ℕ
+  inRegion = sumIn (bookOf b .energy) (headerOf b .energies) g
 
   here : ℕ → Bool
   here i = eqb (bookOf b .energy i .region) g
 
-  ace-sum : regionSum (signedBook b) g (λ r. r .ace) ≡ negℤ (pos (inRegion (aceOf (bookOf b .energy))))
+  ace-sum : regionSum (signedBook b) g (λ r. r .ace) ≡ negℤ (pos (inRegion Ace))
   unfolding regionSum keyed energyRow energyAt here
   ace-sum = sum-minus (λ i. signedBook b .energy i .ace) (λ i. bookOf b .energy i .ace) here (headerOf b .energies) (λ i m. sized-energy b a f i m .ace)
 
-  asoe-sum : regionSum (signedBook b) g (λ r. r .asoe) ≡ pos (inRegion (asoeOf (bookOf b .energy)))
+  asoe-sum : regionSum (signedBook b) g (λ r. r .asoe) ≡ pos (inRegion Asoe)
   unfolding regionSum keyed energyRow energyAt here
   asoe-sum = sum-pos (λ i. signedBook b .energy i .asoe) (λ i. bookOf b .energy i .asoe) here (headerOf b .energies) (λ i m. sized-energy b a f i m .asoe)
 
-  residual-sum : regionSum (signedBook b) g te ≡ pos (inRegion (teOf (bookOf b .energy)))
+  residual-sum : regionSum (signedBook b) g te ≡ pos (inRegion Residual)
   unfolding regionSum keyed energyRow energyAt here
   residual-sum = sum-pos (λ i. te (signedBook b .energy i)) (λ i. bookOf b .energy i .race + bookOf b .energy i .rasoe) here (headerOf b .energies) (λ i m. sized-energy b a f i m .residual)
 
-  ace-test : (eqb (bookOf b .entry g .ace) (inRegion (aceOf (bookOf b .energy))) ≡ true) ↔ (signedBook b .entry g .ace ≡ regionSum (signedBook b) g (λ r. r .ace))
-  ace-test = minus-test (bookOf b .entry g .ace) (inRegion (aceOf (bookOf b .energy))) (sized-entry b a f g l .ace) ace-sum
+  ace-test : (eqb (bookOf b .entry g .ace) (inRegion Ace) ≡ true) ↔ (signedBook b .entry g .ace ≡ regionSum (signedBook b) g (λ r. r .ace))
+  ace-test = minus-test (bookOf b .entry g .ace) (inRegion Ace) (sized-entry b a f g l .ace) ace-sum
 
-  asoe-test : (eqb (bookOf b .entry g .asoe) (inRegion (asoeOf (bookOf b .energy))) ≡ true) ↔ (signedBook b .entry g .asoe ≡ regionSum (signedBook b) g (λ r. r .asoe))
-  asoe-test = pos-test (bookOf b .entry g .asoe) (inRegion (asoeOf (bookOf b .energy))) (sized-entry b a f g l .asoe) asoe-sum
+  asoe-test : (eqb (bookOf b .entry g .asoe) (inRegion Asoe) ≡ true) ↔ (signedBook b .entry g .asoe ≡ regionSum (signedBook b) g (λ r. r .asoe))
+  asoe-test = pos-test (bookOf b .entry g .asoe) (inRegion Asoe) (sized-entry b a f g l .asoe) asoe-sum
 
-  residual-test : (eqb (bookOf b .entry g .residual) (inRegion (teOf (bookOf b .energy))) ≡ true) ↔ (signedBook b .entry g .residual ≡ regionSum (signedBook b) g te)
-  residual-test = pos-test (bookOf b .entry g .residual) (inRegion (teOf (bookOf b .energy))) (sized-entry b a f g l .residual) residual-sum
+  residual-test : (eqb (bookOf b .entry g .residual) (inRegion Residual) ≡ true) ↔ (signedBook b .entry g .residual ≡ regionSum (signedBook b) g te)
+  residual-test = pos-test (bookOf b .entry g .residual) (inRegion Residual) (sized-entry b a f g l .residual) residual-sum
 
   abbrev tests : List Bool
-  tests = sumTests (bookOf b .entry g) (inRegion (aceOf (bookOf b .energy))) (inRegion (asoeOf (bookOf b .energy))) (inRegion (teOf (bookOf b .energy)))
+  tests = sumTests (bookOf b .entry g) inRegion
 
   entry-holds : allOf tests ≡ true → EntrySums (signedBook b) g
   entry-holds t =

@@ -11,14 +11,15 @@ use Rattle.numbers.specs.Round.{roundN}
 use Rattle.numbers.proofs.Rounding.{round-share}
 use Rattle.sections.specs.Total.{total}
 use Rattle.sections.proofs.Total.{total-same}
-use Rattle.market.specs.Kinds.{raises, regulates, bitSet, modeWith}
+use Rattle.market.specs.Kinds.{raises, regulates, basisOf, bitSet, modeWith}
 use Rattle.rules.specs.Rules.{factorOf}
 use Rattle.rules.specs.Inner.Facts.{ConstraintRule}
 use Rattle.records.specs.declared.rows.Entry.{Entry}
 use Rattle.records.specs.declared.rows.Constraint.{Constraint}
 use Rattle.records.specs.declared.rows.UnitRow.{UnitRow}
 use Rattle.records.specs.declared.rows.Contract.{Contract}
-use Rattle.totals.specs.Divisors.{basisOf, countedIn, overRegions}
+use Rattle.totals.specs.Sums.{entryBy}
+use Rattle.totals.specs.Divisors.{countedIn, overRegions}
 use Rattle.amounts.specs.Pools.{allUnused, poolsByMode, poolsOf, residualPools, halve, halvesOf}
 use Rattle.amounts.specs.declared.pools.Pools.{Pools}
 use Rattle.statement.specs.declared.Line.{Line}
@@ -115,7 +116,7 @@ module _ (r : Constraint) (z : SignedConstraint) (s : SizedConstraint r z) (h : 
 
   -- energies over its regions
 
-  module _ (own : ℕ → Entry) (ownZ : ℕ → Energies) (x : Entry → ℕ) (y : Energies → ℤ) (b : (e : Entry) → basisOf r e ≡ x e) where
+  module _ (own : ℕ → Entry) (ownZ : ℕ → Energies) (x : Entry → ℕ) (y : Energies → ℤ) (b : (e : Entry) → entryBy (basisOf (r .service)) e ≡ x e) where
     basis-over : total (λ g. cond (bitSet (z .mask) g) (x (own g)) 0) 5 ≡ overRegions own r
     unfolding countedIn
     basis-over =
@@ -135,15 +136,15 @@ module _ (r : Constraint) (z : SignedConstraint) (s : SizedConstraint r z) (h : 
   contingent : r .mode ≡ 0 → regulates (r .service) ≡ false
   contingent m = lt-leb 9 (r .service) (omega (arith, h .contingency m))
 
-  by-rest : (r .mode ≡ 0 → ⊥) → (e : Entry) → basisOf r e ≡ e .residual
+  by-rest : (r .mode ≡ 0 → ⊥) → (e : Entry) → entryBy (basisOf (r .service)) e ≡ e .residual
   unfolding basisOf
   by-rest live e = rw (le-leb 9 (r .service) (h .regulation live)) refl
 
-  by-asoe : r .mode ≡ 0 → raises (r .service) ≡ true → (e : Entry) → basisOf r e ≡ e .asoe
+  by-asoe : r .mode ≡ 0 → raises (r .service) ≡ true → (e : Entry) → entryBy (basisOf (r .service)) e ≡ e .asoe
   unfolding basisOf
   by-asoe m t e = rw (contingent m, t) refl
 
-  by-ace : r .mode ≡ 0 → raises (r .service) ≡ false → (e : Entry) → basisOf r e ≡ e .ace
+  by-ace : r .mode ≡ 0 → raises (r .service) ≡ false → (e : Entry) → entryBy (basisOf (r .service)) e ≡ e .ace
   unfolding basisOf
   by-ace m t e = rw (contingent m, t) refl
 

@@ -1,8 +1,10 @@
--- What the numbers of services, regions and modes stand for.
+-- What the numbers of services, regions and modes stand for, and by which energy a service's cost is shared.
 use Prim.Native.Nat.{ℕ, _/_, _%_, _^_}
 use mathlib.Core.Bool.{Bool, _&&_, cond}
 use mathlib.Core.List.{List, [], _∷_}
 use lib.Dec.{eqb, leb}
+use Rattle.market.specs.declared.Basis.{Basis}
+use Rattle.market.specs.declared.Basis.the-variants.{Ace, Asoe, Residual}
 use Rattle.market.specs.declared.Mode.{Mode}
 use Rattle.market.specs.declared.Mode.the-variants.{Contingency, Factored, Default, Unknown}
 
@@ -26,6 +28,10 @@ raises number = eqb (number % 2) 1
 -- 01, The book: "9 and 10 are regulation raise and lower"
 abbrev pub regulates : ℕ → Bool
 regulates number = leb 9 number
+
+-- 01, Refusals, 10: "raise contingency, total ASOE over its regions; lower, total ACE; regulation, residual total"; Lines: "ASOE for raise, ACE for lower"
+unfoldable pub basisOf : ℕ → Basis
+basisOf number = cond (regulates number) Residual (cond (raises number) Asoe Ace)
 
 -- 01, The book: "The regions of a constraint are one bit each, bit 0 for NSW1"
 abbrev pub bitSet : ℕ → ℕ → Bool

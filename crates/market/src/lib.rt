@@ -1,8 +1,8 @@
 // Services, regions and a constraint's mode: what the numbers of a record stand for.
-// Raise or lower, the region's bit and the mode's data are asked here and nowhere else.
+// Raise or lower, the energy that a cost is shared by, the region's bit and the mode's data are asked here and nowhere else.
 ghost use mathlib.Core.Path.{_≡_};
 ghost use Prim.Native.Nat.{_^_, _<_};
-ghost use Rattle.market.specs.Kinds.{serviceNumbers, regionNumbers, isService, raises, regulates, bitSet, modeWith};
+ghost use Rattle.market.specs.Kinds.{serviceNumbers, regionNumbers, isService, raises, regulates, basisOf, bitSet, modeWith};
 
 // A market frequency service, by its number.
 pub struct Service {
@@ -74,6 +74,28 @@ impl Service {
         ensures { λ r. ⌜ r ≡ regulates (self .number) ⌝ }
     {
         Self::REGULATION_RAISE.number <= self.number
+    }
+}
+
+// By which energy a cost is shared: that consumed (ACE), that sent out (ASOE), or the residual of both.
+pub enum Basis {
+    Ace,
+    Asoe,
+    Residual,
+}
+
+impl Basis {
+    // Regulation is shared by residual energy, a raise contingency by ASOE, a lower one by ACE.
+    pub fn of(service: Service) -> Basis
+        ensures { λ b. ⌜ b ≡ basisOf (service .number) ⌝ }
+    {
+        if service.is_regulation() {
+            return Basis::Residual;
+        }
+        if service.is_raise() {
+            return Basis::Asoe;
+        }
+        Basis::Ace
     }
 }
 

@@ -6,16 +6,17 @@ use mathlib.Core.List.{[], _∷_}
 use mathlib.Core.Logic.{⊎-elim}
 use native.Mathlib.Omega.{arith}
 use native.Mathlib.Nat.{eq-or-lt-of-le}
-use lib.ListN.{getD}
 use Rattle.ground.specs.Every.{allOf}
 use Rattle.ground.proofs.Every.{every, all}
 use Rattle.sections.specs.Total.{keyed, totalOf}
 use Rattle.sections.proofs.First.{first-good}
 use Rattle.sections.proofs.Total.{keyed-hit, total-has}
+use Rattle.market.specs.declared.Basis.the-variants.{Ace, Asoe}
 use Rattle.rules.specs.Inner.Facts.{EntryRule}
 use Rattle.records.specs.declared.rows.Entry.{Entry}
 use Rattle.records.specs.declared.rows.EnergyRow.{EnergyRow}
-use Rattle.totals.specs.Sums.{regionOf, aceOf, asoeOf, entryIs, entryHasSums}
+use Rattle.totals.specs.Sums.{regionOf, energyOf, entryIs, entryHasSums}
+use Rattle.totals.specs.Inner.Totals.{sumAt}
 use Rattle.totals.specs.declared.entries.Totals.{Totals}
 use Rattle.totals.proofs.Said.{entry-of}
 use Rattle.totals.proofs.Turns.{entry-is-at, five}
@@ -52,18 +53,18 @@ module _ (energy : ℕ → EnergyRow) (n : ℕ) (entry : ℕ → Entry) where
               let b : energy i .region < 5 = omega (arith, r .region) in
               let sums = entry-of energy n entry (first-good _ 5 h) (energy i .region) b in
               let rule = rules (energy i .region) b in
-              let ace = sum-has (regionOf energy) (aceOf energy) n i l in
-              let asoe = sum-has (regionOf energy) (asoeOf energy) n i l in
-              fields-of (energy i) r (omega (arith, sums .ace, rule .ace)) (omega (arith, sums .asoe, rule .asoe));
+              let ace = sum-has (regionOf energy) (energyOf Ace energy) n i l in
+              let asoe = sum-has (regionOf energy) (energyOf Asoe energy) n i l in
+              fields-of (energy i) r (omega (arith, sums .each Ace, rule .ace)) (omega (arith, sums .each Asoe, rule .asoe));
           order = λ i l. kept i l .order;
           sums = h;
         }
 
-    entry-at : (g : ℕ) {b : Bool} → g < 5 → b ≡ entryIs (entry g) (getD (t .ace) g 0) (getD (t .asoe) g 0) (getD (t .residual) g 0) → b ≡ entryHasSums energy n entry g
+    entry-at : (g : ℕ) {b : Bool} → g < 5 → b ≡ entryIs (entry g) (sumAt t g) → b ≡ entryHasSums energy n entry g
     entry-at g l e = entry-is-at energy n entry g (rw q at (s .sums)) l refl e
 
     -- all rows were summed: the answer is what the tests of the five entries say joined
-    pub energies-yes : {b₀ b₁ b₂ b₃ b₄ : Bool} → b₀ ≡ entryIs (entry 0) (getD (t .ace) 0 0) (getD (t .asoe) 0 0) (getD (t .residual) 0 0) → b₁ ≡ entryIs (entry 1) (getD (t .ace) 1 0) (getD (t .asoe) 1 0) (getD (t .residual) 1 0) → b₂ ≡ entryIs (entry 2) (getD (t .ace) 2 0) (getD (t .asoe) 2 0) (getD (t .residual) 2 0) → b₃ ≡ entryIs (entry 3) (getD (t .ace) 3 0) (getD (t .asoe) 3 0) (getD (t .residual) 3 0) → b₄ ≡ entryIs (entry 4) (getD (t .ace) 4 0) (getD (t .asoe) 4 0) (getD (t .residual) 4 0) → allOf (b₀ ∷ b₁ ∷ b₂ ∷ b₃ ∷ b₄ ∷ []) ≡ energiesHold energy n entry
+    pub energies-yes : {b₀ b₁ b₂ b₃ b₄ : Bool} → b₀ ≡ entryIs (entry 0) (sumAt t 0) → b₁ ≡ entryIs (entry 1) (sumAt t 1) → b₂ ≡ entryIs (entry 2) (sumAt t 2) → b₃ ≡ entryIs (entry 3) (sumAt t 3) → b₄ ≡ entryIs (entry 4) (sumAt t 4) → allOf (b₀ ∷ b₁ ∷ b₂ ∷ b₃ ∷ b₄ ∷ []) ≡ energiesHold energy n entry
     energies-yes {b₀} {b₁} {b₂} {b₃} {b₄} e₀ e₁ e₂ e₃ e₄ =
         let p₀ = entry-at 0 (omega arith) e₀ in
         let p₁ = entry-at 1 (omega arith) e₁ in

@@ -7,7 +7,6 @@ use mathlib.Core.Logic.{⊎-elim}
 use native.Mathlib.Omega.{arith}
 use borrow.Author.Tests.{ltb-true, leb-true, eqb-true, lt-ltb, le-leb, eq-eqb}
 use lib.Dec.{eqb, leb, ltb}
-use lib.ListN.{getD}
 use Rattle.ground.specs.Bytes.{byteAt, u32Of, u32At}
 use Rattle.ground.specs.Every.{allOf}
 use Rattle.ground.proofs.Every.{every, all}
@@ -18,6 +17,7 @@ use Rattle.rules.specs.Rules.{energyTests, energyOk}
 use Rattle.records.specs.declared.rows.Entry.{Entry}
 use Rattle.records.specs.declared.rows.EnergyRow.{EnergyRow}
 use Rattle.totals.specs.Sums.{entryIs}
+use Rattle.totals.specs.Inner.Totals.{sumAt}
 use Rattle.totals.specs.declared.entries.Totals.{Totals}
 use Rattle.quick.specs.Inner.Energies.{accountRegion, rowHolds}
 use Rattle.quick.proofs.Said.{same-answer}
@@ -115,8 +115,8 @@ from-fields r e =
 -- ---- an entry
 
 -- the test of the entry that was read
-pub entry-holds : (t : Totals) (g : ℕ) {e d : Entry} {b : Bool} → d ≡ e → b ≡ entryIs d (getD (t .ace) g 0) (getD (t .asoe) g 0) (getD (t .residual) g 0) → b ≡ entryIs e (getD (t .ace) g 0) (getD (t .asoe) g 0) (getD (t .residual) g 0)
-entry-holds t g q s = s ∙ ap (λ (e : Entry). entryIs e (getD (t .ace) g 0) (getD (t .asoe) g 0) (getD (t .residual) g 0)) q
+pub entry-holds : (t : Totals) (g : ℕ) {e d : Entry} {b : Bool} → d ≡ e → b ≡ entryIs d (sumAt t g) → b ≡ entryIs e (sumAt t g)
+entry-holds t g q s = s ∙ ap (λ (e : Entry). entryIs e (sumAt t g)) q
 
 -- ---- two rows
 

@@ -15,13 +15,15 @@ use Rattle.sections.specs.Order.{risesBy}
 use Rattle.sections.specs.Inner.Walk.{Split}
 use Rattle.sections.proofs.Order.{rises-first, rises-later, rises-step}
 use Rattle.sections.proofs.Search.{lt-or-ge}
-use Rattle.sections.proofs.Groups.{split-more, split-bound}
+use Rattle.market.specs.declared.Basis.{Basis}
+use Rattle.market.specs.declared.Basis.the-variants.{Ace, Asoe, Residual}
 use Rattle.rules.specs.Rules.{energyBelow}
 use Rattle.records.specs.declared.rows.EnergyRow.{EnergyRow}
-use Rattle.totals.specs.Inner.Turns.{TotalsOf}
+use Rattle.totals.specs.Sums.{rowBy}
+use Rattle.totals.specs.Inner.Turns.{TotalsOf, SumRoom, Added}
 use Rattle.totals.specs.declared.entries.Totals.{Totals}
-use Rattle.totals.proofs.Turns.{totals-none}
-use Rattle.quick.specs.Inner.Energies.{accountRegion, rowHolds, rowKeeps, SumRoom, EnergyAdded, SummedIs}
+use Rattle.totals.proofs.Turns.{totals-are, sums-room, totals-none, totals-more}
+use Rattle.quick.specs.Inner.Energies.{accountRegion, rowHolds, rowKeeps, SummedIs}
 use Rattle.quick.proofs.Said.{same-answer, no-yes}
 use Rattle.quick.proofs.EnergyRows.{RowHolds, row-says, row-said, pair-below, below-pair}
 
@@ -45,6 +47,12 @@ split-once group f i {l} {x} h g =
 pub record Narrow (r : EnergyRow) : Type 0 where
   pub ace : r .ace < 4_294_967_296
   pub asoe : r .asoe < 4_294_967_296
+
+-- and so is their sum, whatever is residual of them
+narrow-row : (b : Basis) (r : EnergyRow) → Narrow r → r .race ≤ r .ace → r .rasoe ≤ r .asoe → rowBy b r ≤ 8_589_934_590
+narrow-row Ace r h c s = omega (arith, h .ace)
+narrow-row Asoe r h c s = omega (arith, h .asoe)
+narrow-row Residual r h c s = omega (arith, h .ace, h .asoe)
 
 module _ (energy : ℕ → EnergyRow) where
   -- what it says that row i keeps its rules, and back
@@ -79,16 +87,6 @@ module _ (energy : ℕ → EnergyRow) where
         each = below-none _;
         narrow = below-none _;
         sums = totals-none energy;
-      }
-
-  -- the sums with row i
-  sums-more : (i : ℕ) {t x : Totals} {g : ℕ} {r : EnergyRow} → TotalsOf energy i t → r ≡ energy i → g ≡ r .region → g ≤ 4 → EnergyAdded t g r x → TotalsOf energy (i + 1) x
-  sums-more i h e q b p =
-      let g = q ∙ ap (λ (r : EnergyRow). r .region) e in
-      record {
-        ace = rw (p .ace) (split-more _ _ 5 i (h .ace) g (omega arith) (ap (λ (r : EnergyRow). r .ace) e));
-        asoe = rw (p .asoe) (split-more _ _ 5 i (h .asoe) g (omega arith) (ap (λ (r : EnergyRow). r .asoe) e));
-        residual = rw (p .residual) (split-more _ _ 5 i (h .residual) g (omega arith) (ap (λ (r : EnergyRow). r .race + r .rasoe) e));
       }
 
   -- row i holds after the last key exactly where it keeps its rules
@@ -145,7 +143,7 @@ module _ (energy : ℕ → EnergyRow) where
       held = row-says before r (sym q ∙ not-false b f)
 
       -- it passed: x are the sums with it
-      pub rows-more : {key : ℕ} {x : Totals} → r .ace < 4_294_967_296 → r .asoe < 4_294_967_296 → EnergyAdded t head r x → key ≡ r .account * 4_294_967_296 + head → Rows (i + 1) key x
+      pub rows-more : {key : ℕ} {x : Totals} → r .ace < 4_294_967_296 → r .asoe < 4_294_967_296 → Added t head r x → key ≡ r .account * 4_294_967_296 + head → Rows (i + 1) key x
       rows-more {key} {x} a c p k =
           let g : head ≡ r .region = omega (arith, held .spare) in
           let up = held .above in
@@ -157,7 +155,7 @@ module _ (energy : ℕ → EnergyRow) where
             last = λ _. rw (back, ← e) (omega arith);
             each = below-more _ i (s .each) (sym (row-exact i before s) ∙ rw e at (sym q ∙ not-false b f));
             narrow = below-more _ i (s .narrow) (rw e at narrowed);
-            sums = sums-more i (s .sums) e g (omega (arith, held .region)) p;
+            sums = totals-more energy i (s .sums) e g (omega (arith, held .region)) p;
           }
         where
           narrowed : Narrow r
@@ -167,14 +165,7 @@ module _ (energy : ℕ → EnergyRow) where
       pub rows-room : (n : ℕ) → n ≤ 1024 → i < n → (head < 5) × SumRoom t head
       rows-room n few l =
           let in-reach : head < 5 = omega (arith, held .spare, held .region) in
-          let sums = s .sums in (
-            in-reach,
-            record {
-              ace = omega (arith, split-bound _ _ 5 8_589_934_590 i (λ j k. omega (arith, s .narrow j k .ace)) i (sums .ace) (omega arith) head in-reach);
-              asoe = omega (arith, split-bound _ _ 5 8_589_934_590 i (λ j k. omega (arith, s .narrow j k .asoe)) i (sums .asoe) (omega arith) head in-reach);
-              residual = omega (arith, split-bound _ _ 5 8_589_934_590 i (λ j k. let z = keeps-says j (s .each j k) .fields in let y = s .narrow j k in omega arith) i (sums .residual) (omega arith) head in-reach);
-            },
-          )
+          (in-reach, sums-room energy _ i (omega arith) (λ b j k. let z = keeps-says j (s .each j k) .fields in narrow-row b (energy j) (s .narrow j k) (z .race) (z .rasoe)) (s .sums) head in-reach)
 
   -- the loop's end: there is no row left
   pub rows-all : (i n : ℕ) {before : ℕ} {t : Totals} → Rows i before t → i ≤ n → n ≤ i → SummedIs energy n n t
@@ -192,11 +183,7 @@ module _ (energy : ℕ → EnergyRow) where
       let same = place in
       let other : SummedIs energy n i x = rw (← same) at g in (
         same,
-        λ k. record {
-          ace = split-once _ _ i (h .sums .ace) (other .sums .ace) k;
-          asoe = split-once _ _ i (h .sums .asoe) (other .sums .asoe) k;
-          residual = split-once _ _ i (h .sums .residual) (other .sums .residual) k;
-        },
+        totals-are t x (λ b. split-once _ _ i (h .sums .each b) (other .sums .each b)),
       )
     where
       place : i ≡ j

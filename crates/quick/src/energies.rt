@@ -3,12 +3,13 @@
 // no row is held against it.
 ghost use mathlib.Core.Path.{_≡_};
 ghost use Prim.Native.Nat.{ℕ, _+_, _*_, _≤_, _<_};
-ghost use lib.ListN.{length, getD, set};
+ghost use lib.ListN.{length};
 ghost use Rattle.records.specs.Rows.{entryRow, energyRow};
 ghost use Rattle.rules.specs.Inner.Facts.{EntryRule};
 ghost use Rattle.totals.specs.Sums.{entryIs};
+ghost use Rattle.totals.specs.Inner.Totals.{sumAt};
 ghost use Rattle.quick.specs.Inner.Holds.{energiesHold};
-ghost use Rattle.quick.specs.Inner.Energies.{rowHolds, SumRoom, EnergyAdded, SummedIs};
+ghost use Rattle.quick.specs.Inner.Energies.{rowHolds, SummedIs};
 use ground::read;
 use records::rows;
 use records::rows::EnergyRow;
@@ -44,24 +45,6 @@ fn row_holds(r: EnergyRow, head: u32, before: u64) -> bool
     (before < key_of(r.account, head)) & (head <= 4) & (r.race <= r.ace) & (r.rasoe <= r.asoe)
 }
 
-// One more number in region g's sum.
-fn add(a: &mut [u64; 5], g: usize, x: u64)
-    requires { ⌜ (g < 5) × ((getD (now a) g 0 ≤ 8_796_093_022_208) × (x ≤ 8_589_934_592)) ⌝ }
-    ensures { λ _. ⌜ now (a .exit) ≡ set (now (a .entry)) g (getD (now (a .entry)) g 0 + x) ⌝ }
-{
-    a[g] = a[g] + x;
-}
-
-// A row in its region's sums.
-fn add_row(ace: &mut [u64; 5], asoe: &mut [u64; 5], residual: &mut [u64; 5], r: EnergyRow, g: usize)
-    requires { ⌜ (g < 5) × SumRoom (record { ace = now ace; asoe = now asoe; residual = now residual }) g ⌝ }
-    ensures { λ _. ⌜ EnergyAdded (record { ace = now (ace .entry); asoe = now (asoe .entry); residual = now (residual .entry) }) g r (record { ace = now (ace .exit); asoe = now (asoe .exit); residual = now (residual .exit) }) ⌝ }
-{
-    add(ace, g, r.ace as u64);
-    add(asoe, g, r.asoe as u64);
-    add(residual, g, (r.race as u64) + (r.rasoe as u64));
-}
-
 // The n energy rows in order, up to the first that does not hold.
 fn sum_rows(energy: &[u8], n: usize) -> Summed
     requires { ⌜ (n * 24 ≤ length (now energy)) × (n ≤ 1024) ⌝ }
@@ -85,7 +68,7 @@ fn sum_rows(energy: &[u8], n: usize) -> Summed
                 },
             };
         }
-        add_row(&mut ace, &mut asoe, &mut residual, r, head as usize);
+        entries::add_row(&mut ace, &mut asoe, &mut residual, r, head as usize);
         before = key_of(r.account, head);
         i += 1;
     }
@@ -102,7 +85,7 @@ fn sum_rows(energy: &[u8], n: usize) -> Summed
 // Whether an entry has its region's sums.
 fn entry_holds(regions: &[u8], t: Totals, g: usize) -> bool
     requires { ⌜ (60 ≤ length (now regions)) × (g < 5) ⌝ }
-    ensures { λ b. ⌜ b ≡ entryIs (entryRow (now (regions .entry)) g) (getD (t .ace) g 0) (getD (t .asoe) g 0) (getD (t .residual) g 0) ⌝ }
+    ensures { λ b. ⌜ b ≡ entryIs (entryRow (now (regions .entry)) g) (sumAt t g) ⌝ }
 {
     entries::entry_is(rows::entry_row(regions, g), t, g)
 }

@@ -1,7 +1,6 @@
 -- Each way in which the call ends, over a book's own rows. Assumes nothing.
 use Prim.Native.Nat.{ℕ, _+_, _*_, _<_}
 use mathlib.Core.Path.{_≡_, refl, sym, ap, subst, _∙_}
-use Rattle.records.specs.declared.rows.Entry.{Entry}
 use mathlib.Core.Bool.{Bool, true, false, not, _&&_, _||_}
 use mathlib.Core.List.{List}
 use borrow.Author.Tests.{ltb-true, ltb-false}
@@ -78,7 +77,7 @@ module _ (B : Book) (account : ℕ) (p : Promise B) {held : Held} (f : HeldIs (B
   pub own-of : unknown (rowsOfAccount B account) ≡ false → Owned B account (held .own)
   own-of k =
       let same = held-own B f in
-      let w : (g : ℕ) → g < 5 → AtMostEntry (B .entry g) (entryOf (held .own) g .ace) (entryOf (held .own) g .asoe) (entryOf (held .own) g .residual) = λ g h. subst (λ (z : Entry). AtMostEntry (B .entry g) (z .ace) (z .asoe) (z .residual)) (sym (same g h)) (own-within p account g h) in
+      let w : (g : ℕ) → g < 5 → AtMostEntry (B .entry g) (entryOf (held .own) g) = λ g h. subst (AtMostEntry (B .entry g)) (sym (same g h)) (own-within p account g h) in
       record {
         known = k;
         lines = lines-link B account (held .own) same;

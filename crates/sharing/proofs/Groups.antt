@@ -18,14 +18,14 @@ use Rattle.sections.proofs.Walk.{Run, run-start, run-next, run-stop, run-done, 
 use Rattle.market.specs.Kinds.{bitSet}
 use Rattle.rules.specs.Inner.Facts.{EnergyRule}
 use Rattle.records.specs.declared.rows.EnergyRow.{EnergyRow}
+use Rattle.totals.specs.Sums.{rowBy}
+use Rattle.totals.proofs.Turns.{row-small}
 use Rattle.accounts.specs.Rows.{sumOf}
 use Rattle.sharing.specs.Once.{has, joinNew, named}
 use Rattle.sharing.specs.Inner.Seen.{seen}
 use Rattle.sharing.specs.Accounts.{energyAccount}
-use Rattle.sharing.specs.Inner.Shares.{byBasis, energyIn, ownInPart, shareIn, partSum, Sorted, Shareable}
+use Rattle.sharing.specs.Inner.Shares.{energyIn, ownInPart, shareIn, partSum, Sorted, Shareable}
 use Rattle.sharing.specs.Inner.Groups.{GroupIs}
-use Rattle.sharing.specs.declared.shares.Basis.{Basis}
-use Rattle.sharing.specs.declared.shares.Basis.the-variants.{Ace, Asoe, Residual}
 use Rattle.sharing.specs.declared.shares.Group.{Group}
 use Rattle.sharing.specs.declared.shares.Part.{Part}
 use Rattle.sharing.proofs.Sums.{sum-bound}
@@ -36,23 +36,21 @@ use Rattle.sharing.proofs.InOrder.{in-order}
 
 -- a row's energy of any kind
 pub energy-small : (p : Part) (r : EnergyRow) → EnergyRule r → energyIn p r ≤ 40_000_000
-unfolding energyIn byBasis
-energy-small p r h = by (bitSet (p .mask) (r .region)) (p .basis)
+unfolding energyIn
+energy-small p r h = by (bitSet (p .mask) (r .region))
   where
-    by : (t : Bool) (b : Basis) → cond t (byBasis b r) 0 ≤ 40_000_000
-    by true Ace = omega arith
-    by true Asoe = omega arith
-    by true Residual = omega arith
-    by false b = omega arith
+    by : (t : Bool) → cond t (rowBy (p .basis) r) 0 ≤ 40_000_000
+    by true = row-small (p .basis) r h
+    by false = omega arith
 
 -- by product: t says whether the row's region, by its number k, is in the part's mask
-pub energy-product : (p : Part) (r : EnergyRow) {k x : ℕ} {t : Bool} → k ≡ r .region → t ≡ bitSet (p .mask) k → x ≡ byBasis (p .basis) r → boolByte t * x ≡ energyIn p r
+pub energy-product : (p : Part) (r : EnergyRow) {k x : ℕ} {t : Bool} → k ≡ r .region → t ≡ bitSet (p .mask) k → x ≡ rowBy (p .basis) r → boolByte t * x ≡ energyIn p r
 unfolding energyIn
 energy-product p r q e d = rw (e, q, d) (by (bitSet (p .mask) (r .region)))
   where
-    by : (t : Bool) → boolByte t * byBasis (p .basis) r ≡ cond t (byBasis (p .basis) r) 0
-    by true = one-mul (byBasis (p .basis) r)
-    by false = zero-mul (byBasis (p .basis) r)
+    by : (t : Bool) → boolByte t * rowBy (p .basis) r ≡ cond t (rowBy (p .basis) r) 0
+    by true = one-mul (rowBy (p .basis) r)
+    by false = zero-mul (rowBy (p .basis) r)
 
 module _ (p : Part) (energy : ℕ → EnergyRow) (n : ℕ) where
   abbrev counted : ℕ → ℕ

@@ -13,9 +13,10 @@ use Rattle.sections.specs.Total.{total, keyed, totalOf}
 use Rattle.sections.proofs.Total.{total-zero, total-same}
 use Rattle.market.specs.Kinds.{bitSet}
 use Rattle.records.specs.declared.rows.EnergyRow.{EnergyRow}
+use Rattle.totals.specs.Sums.{rowBy}
 use Rattle.sharing.specs.Once.{has, named}
 use Rattle.sharing.specs.Accounts.{energyAccount}
-use Rattle.sharing.specs.Inner.Shares.{byBasis, energyIn, ownInPart, shareIn, partSum, Sorted}
+use Rattle.sharing.specs.Inner.Shares.{energyIn, ownInPart, shareIn, partSum, Sorted}
 use Rattle.sharing.specs.declared.shares.Part.{Part}
 use Rattle.sharing.proofs.Sums.{sum-same}
 use Rattle.sharing.proofs.Once.{seen-each, has-named, once-named, once-none, sum-each}
@@ -38,7 +39,7 @@ module _ (make : ℕ → ℕ) (none : make 0 ≡ 0) (f : ℕ → ℕ) where
 -- ---- a part that counts the rows of region g
 
 module _ (p : Part) (energy : ℕ → EnergyRow) (n g : ℕ) (s : Sorted energy n) (one : (i : ℕ) → i < n → bitSet (p .mask) (energy i .region) ≡ eqb (energy i .region) g) where
-  counts : (i : ℕ) → i < n → energyIn p (energy i) ≡ cond (eqb (energy i .region) g) (byBasis (p .basis) (energy i)) 0
+  counts : (i : ℕ) → i < n → energyIn p (energy i) ≡ cond (eqb (energy i .region) g) (rowBy (p .basis) (energy i)) 0
   unfolding energyIn
   counts i l = rw (one i l)
 
@@ -65,10 +66,10 @@ module _ (p : Part) (energy : ℕ → EnergyRow) (n g : ℕ) (s : Sorted energy 
       ∙ total-same _ _ n (λ i l. share-choice (p .amount) (p .whole) (eqb (energy i .account) a) (energyIn p (energy i)))
 
   -- and the shares of all accounts are those of the region's rows
-  pub part-rows : partSum p energy n ≡ totalOf (λ i. energy i .region) g (λ i. roundN (p .amount * byBasis (p .basis) (energy i)) (p .whole)) n
+  pub part-rows : partSum p energy n ≡ totalOf (λ i. energy i .region) g (λ i. roundN (p .amount * rowBy (p .basis) (energy i)) (p .whole)) n
   unfolding partSum has keyed
   part-rows =
       let accounts = named (energyAccount energy) n [] in
       sum-same _ _ accounts share-rows
       ∙ sum-each (energyAccount energy) _ accounts n (λ k l. once-named (energyAccount energy) n [] once-none (energy k .account) ∙ rw (has-named (energyAccount energy) n [] (energy k .account), seen-each (energyAccount energy) n k l))
-      ∙ total-same _ _ n (λ i l. ap (λ (x : ℕ). roundN (p .amount * x) (p .whole)) (counts i l) ∙ share-choice (p .amount) (p .whole) (eqb (energy i .region) g) (byBasis (p .basis) (energy i)))
+      ∙ total-same _ _ n (λ i l. ap (λ (x : ℕ). roundN (p .amount * x) (p .whole)) (counts i l) ∙ share-choice (p .amount) (p .whole) (eqb (energy i .region) g) (rowBy (p .basis) (energy i)))

@@ -9,17 +9,12 @@ ghost use Rattle.rules.specs.Inner.Facts.{EnergyRule};
 ghost use Rattle.records.specs.Rows.{energyRow};
 ghost use Rattle.sharing.specs.Inner.Groups.{GroupIs};
 ghost use Rattle.sharing.specs.Accounts.{energyAccount};
-ghost use Rattle.sharing.specs.Inner.Shares.{byBasis, energyIn, partSum, Sorted, Shareable};
+ghost use Rattle.sharing.specs.Inner.Shares.{energyIn, partSum, Sorted, Shareable};
+use market::Basis;
 use market::Region;
 use records::rows;
 use records::rows::EnergyRow;
-
-// By which energy a part is shared: that consumed, that sent out, or the residual of both.
-pub enum Basis {
-    Ace,
-    Asoe,
-    Residual,
-}
+use totals::entries;
 
 // An amount that is shared by the energy of one kind in the regions of a mask, which together is the whole.
 pub struct Part {
@@ -35,16 +30,6 @@ struct Group {
     end: usize,
 }
 
-fn by_basis(basis: Basis, r: EnergyRow) -> u64
-    ensures { λ x. ⌜ x ≡ byBasis basis r ⌝ }
-{
-    match basis {
-        Basis::Ace => r.ace as u64,
-        Basis::Asoe => r.asoe as u64,
-        Basis::Residual => (r.race as u64) + (r.rasoe as u64),
-    }
-}
-
 // The energy of a row that a part counts. It is a product and no branch: which rows a part counts, the processor's branch prediction would
 // often guess wrong.
 fn energy_in(p: Part, r: EnergyRow) -> u64
@@ -52,7 +37,7 @@ fn energy_in(p: Part, r: EnergyRow) -> u64
     ensures { λ x. ⌜ x ≡ energyIn p r ⌝ }
 {
     let basis = p.basis;
-    (Region::of(r.region).is_in(p.mask) as u64) * by_basis(basis, r)
+    (Region::of(r.region).is_in(p.mask) as u64) * entries::row_by(basis, r)
 }
 
 // The rows of one account, from the first of them on: they stand side by side.

@@ -9,34 +9,34 @@ use lib.Dec.{eqb}
 use native.Mathlib.Nat.{eq-zero-or-pos}
 use Rattle.ground.proofs.Every.{every}
 use Rattle.sections.specs.First.{firstBad}
-use Rattle.sections.specs.Total.{totalOf}
 use Rattle.sections.specs.declared.Checked.the-variants.{Good}
 use Rattle.sections.proofs.First.{first-each}
 use Rattle.sections.proofs.Search.{all-each}
+use Rattle.market.specs.declared.Basis.{Basis}
+use Rattle.market.specs.declared.Basis.the-variants.{Ace, Asoe, Residual}
+use Rattle.market.proofs.Bases.{each-basis}
 use Rattle.rules.specs.Rules.{factorOf}
 use Rattle.records.specs.declared.rows.Entry.{Entry}
 use Rattle.records.specs.declared.rows.Constraint.{Constraint}
 use Rattle.records.specs.declared.rows.EnergyRow.{EnergyRow}
 use Rattle.records.specs.declared.rows.Contract.{Contract}
-use Rattle.totals.specs.Sums.{regionOf, aceOf, asoeOf, teOf, sumTests, entryIs, entryHasSums}
+use Rattle.totals.specs.Sums.{entryBy, sumIn, sumTests, entryIs, entryHasSums}
 use Rattle.totals.specs.Inner.Facts.{SumsTo}
 use Rattle.totals.specs.Divisors.{overRegions, constraintDivides, fundedIn, contractDivides}
 use Rattle.totals.specs.Inner.Facts.{Funded}
 
 -- ---- check 9
 
-sums-to : (e : Entry) (a b c : ℕ) → entryIs e a b c ≡ true → SumsTo e a b c
-sums-to e a b c q =
-    let h = every (sumTests e a b c) q in
+sums-to : (e : Entry) (sum : Basis → ℕ) → entryIs e sum ≡ true → SumsTo e sum
+sums-to e sum q =
+    let h = every (sumTests e sum) q in
     record {
-      ace = eqb-true (e .ace) a (h .0);
-      asoe = eqb-true (e .asoe) b (h .1 .0);
-      residual = eqb-true (e .residual) c (h .1 .1 .0);
+      each = each-basis (λ b. entryBy b e ≡ sum b) (eqb-true (e .ace) (sum Ace) (h .0)) (eqb-true (e .asoe) (sum Asoe) (h .1 .0)) (eqb-true (e .residual) (sum Residual) (h .1 .1 .0));
     }
 
-pub entry-of : (energy : ℕ → EnergyRow) (n : ℕ) (entry : ℕ → Entry) → firstBad (entryHasSums energy n entry) 5 ≡ Good → (g : ℕ) → g < 5 → SumsTo (entry g) (totalOf (regionOf energy) g (aceOf energy) n) (totalOf (regionOf energy) g (asoeOf energy) n) (totalOf (regionOf energy) g (teOf energy) n)
+pub entry-of : (energy : ℕ → EnergyRow) (n : ℕ) (entry : ℕ → Entry) → firstBad (entryHasSums energy n entry) 5 ≡ Good → (g : ℕ) → g < 5 → SumsTo (entry g) (sumIn energy n g)
 unfolding entryHasSums
-entry-of energy n entry k g l = sums-to (entry g) _ _ _ (first-each (entryHasSums energy n entry) 5 k g l)
+entry-of energy n entry k g l = sums-to (entry g) (sumIn energy n g) (first-each (entryHasSums energy n entry) 5 k g l)
 
 -- ---- check 10
 

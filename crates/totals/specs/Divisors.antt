@@ -4,19 +4,16 @@ use mathlib.Core.Bool.{Bool, _&&_, _||_, not, cond}
 use lib.Dec.{eqb}
 use Rattle.sections.specs.Search.{all}
 use Rattle.sections.specs.Total.{total}
-use Rattle.market.specs.Kinds.{raises, regulates, bitSet}
+use Rattle.market.specs.Kinds.{basisOf, bitSet}
 use Rattle.rules.specs.Rules.{factorOf}
 use Rattle.records.specs.declared.rows.Entry.{Entry}
 use Rattle.records.specs.declared.rows.Constraint.{Constraint}
 use Rattle.records.specs.declared.rows.Contract.{Contract}
+use Rattle.totals.specs.Sums.{entryBy}
 
--- "raise contingency, total ASOE over its regions; lower, total ACE; regulation, residual total"
-unfoldable pub basisOf : Constraint → Entry → ℕ
-basisOf r e = cond (regulates (r .service)) (e .residual) (cond (raises (r .service)) (e .asoe) (e .ace))
-
--- region g counts where its bit is set
+-- "raise contingency, total ASOE over its regions; lower, total ACE; regulation, residual total": region g counts where its bit is set
 unfoldable pub countedIn : Constraint → Entry → ℕ → ℕ
-countedIn r e g = cond (bitSet (r .mask) g) (basisOf r e) 0
+countedIn r e g = cond (bitSet (r .mask) g) (entryBy (basisOf (r .service)) e) 0
 
 -- a constraint's energy over its regions: of the region entries it is the total that the constraint divides by, of an account's own energies the
 -- part of it that is the account's

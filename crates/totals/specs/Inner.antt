@@ -2,3 +2,4 @@
 pub mod Facts
 pub mod Turns
 pub mod Totals
+pub mod Energies

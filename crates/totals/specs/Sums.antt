@@ -1,37 +1,52 @@
--- Check 9. 01, Refusals, 9: "a region entry differs from its rows' sums".
+-- Energy by its kind, and check 9. 01, Refusals, 9: "a region entry differs from its rows' sums".
 use Prim.Native.Nat.{ℕ, _+_}
 use mathlib.Core.Bool.{Bool}
 use mathlib.Core.List.{List, [], _∷_}
 use lib.Dec.{eqb}
 use Rattle.ground.specs.Every.{allOf}
 use Rattle.sections.specs.Total.{totalOf}
+use Rattle.market.specs.declared.Basis.{Basis}
+use Rattle.market.specs.declared.Basis.the-variants.{Ace, Asoe, Residual}
 use Rattle.records.specs.declared.rows.Entry.{Entry}
 use Rattle.records.specs.declared.rows.EnergyRow.{EnergyRow}
+
+-- ---- energy by its kind
+
+-- a region entry's: "total ACE, total ASOE, residual total"
+abbrev pub entryBy : Basis → Entry → ℕ
+entryBy Ace e = e .ace
+entryBy Asoe e = e .asoe
+entryBy Residual e = e .residual
+
+-- an energy row's: "|residual ACE| + |residual ASOE|" is its residual energy
+abbrev pub rowBy : Basis → EnergyRow → ℕ
+rowBy Ace r = r .ace
+rowBy Asoe r = r .asoe
+rowBy Residual r = r .race + r .rasoe
+
+-- a number of each kind, put as a region's entry is
+abbrev pub entryWith : (Basis → ℕ) → Entry
+entryWith number = record { ace = number Ace; asoe = number Asoe; residual = number Residual }
+
+-- ---- check 9
 
 -- a row's region, and what it counts for in its region's totals
 abbrev pub regionOf : (ℕ → EnergyRow) → ℕ → ℕ
 regionOf energy i = energy i .region
 
-abbrev pub aceOf : (ℕ → EnergyRow) → ℕ → ℕ
-aceOf energy i = energy i .ace
+abbrev pub energyOf : Basis → (ℕ → EnergyRow) → ℕ → ℕ
+energyOf b energy i = rowBy b (energy i)
 
-abbrev pub asoeOf : (ℕ → EnergyRow) → ℕ → ℕ
-asoeOf energy i = energy i .asoe
+-- the sum over those of the n energy rows that are in region g
+abbrev pub sumIn : (ℕ → EnergyRow) → ℕ → ℕ → Basis → ℕ
+sumIn energy n g b = totalOf (regionOf energy) g (energyOf b energy) n
 
--- "|residual ACE| + |residual ASOE|"
-abbrev pub teOf : (ℕ → EnergyRow) → ℕ → ℕ
-teOf energy i = energy i .race + energy i .rasoe
+abbrev pub sumTests : Entry → (Basis → ℕ) → List Bool
+sumTests e sum = eqb (e .ace) (sum Ace) ∷ eqb (e .asoe) (sum Asoe) ∷ eqb (e .residual) (sum Residual) ∷ []
 
-abbrev pub sumTests : Entry → ℕ → ℕ → ℕ → List Bool
-sumTests e ace asoe residual = eqb (e .ace) ace ∷ eqb (e .asoe) asoe ∷ eqb (e .residual) residual ∷ []
+abbrev pub entryIs : Entry → (Basis → ℕ) → Bool
+entryIs e sum = allOf (sumTests e sum)
 
-abbrev pub entryIs : Entry → ℕ → ℕ → ℕ → Bool
-entryIs e ace asoe residual = allOf (sumTests e ace asoe residual)
-
--- entry g has the sums over those of the n energy rows that are in region g
+-- entry g has its rows' sums, of each kind
 unfoldable pub entryHasSums : (ℕ → EnergyRow) → ℕ → (ℕ → Entry) → ℕ → Bool
-entryHasSums energy n entry g =
-    entryIs (entry g)
-    (totalOf (regionOf energy) g (aceOf energy) n)
-    (totalOf (regionOf energy) g (asoeOf energy) n)
-    (totalOf (regionOf energy) g (teOf energy) n)
+entryHasSums energy n entry g = entryIs (entry g) (sumIn energy n g)

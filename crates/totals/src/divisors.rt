@@ -6,9 +6,11 @@ ghost use Rattle.sections.specs.First.{firstBad};
 ghost use Rattle.records.specs.Rows.{entryRow, constraintRow, contractRow};
 ghost use Rattle.rules.specs.Rules.{factorOf};
 ghost use Rattle.rules.specs.Inner.Facts.{EntryRule};
+ghost use Rattle.totals.specs.Sums.{entryBy};
 ghost use Rattle.totals.specs.Inner.Totals.{entryOf};
-ghost use Rattle.totals.specs.Divisors.{basisOf, countedIn, overRegions, constraintDivides, fundedIn, contractDivides};
+ghost use Rattle.totals.specs.Divisors.{countedIn, overRegions, constraintDivides, fundedIn, contractDivides};
 use crate::entries::Totals;
+use market::Basis;
 use market::Region;
 use market::Service;
 use records::rows;
@@ -16,21 +18,18 @@ use records::rows::Constraint;
 use records::rows::Entry;
 use sections::Checked;
 
-// By which energy a constraint's cost is shared.
-fn basis(r: Constraint, t: Totals, g: usize) -> u64
+// The energy of one kind in region g.
+fn energy_in(t: Totals, basis: Basis, g: usize) -> u64
     requires { ⌜ g < 5 ⌝ }
-    ensures { λ x. ⌜ x ≡ basisOf r (entryOf t g) ⌝ }
+    ensures { λ x. ⌜ x ≡ entryBy basis (entryOf t g) ⌝ }
 {
     let ace = t.ace;
     let asoe = t.asoe;
     let residual = t.residual;
-    if Service::of(r.service).is_regulation() {
-        return residual[g];
-    }
-    if Service::of(r.service).is_raise() {
-        asoe[g]
-    } else {
-        ace[g]
+    match basis {
+        Basis::Ace => ace[g],
+        Basis::Asoe => asoe[g],
+        Basis::Residual => residual[g],
     }
 }
 
@@ -39,8 +38,9 @@ fn counted(r: Constraint, t: Totals, g: usize) -> u64
     requires { ⌜ g < 5 ⌝ }
     ensures { λ x. ⌜ x ≡ countedIn r (entryOf t g) g ⌝ }
 {
+    let basis = Basis::of(Service::of(r.service));
     if Region::of(g as u8).is_in(r.mask) {
-        basis(r, t, g)
+        energy_in(t, basis, g)
     } else {
         0
     }

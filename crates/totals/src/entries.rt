@@ -1,15 +1,17 @@
-// Check 9: a region's entry is the sum of its energy rows. The sums of all five regions are made in one pass.
+// Energy rows summed by region, and check 9: a region's entry is the sum of its rows. The sums of all five regions are made in one pass.
 ghost use mathlib.Core.Path.{_≡_};
 ghost use Prim.Native.Nat.{ℕ, _+_, _*_, _≤_, _<_};
 ghost use lib.ListN.{length, getD, set};
-ghost use Rattle.ground.specs.Units.{moneyLimit};
 ghost use Rattle.sections.specs.First.{firstBad};
 ghost use Rattle.records.specs.Rows.{entryRow, energyRow};
 ghost use Rattle.rules.specs.Inner.Facts.{EnergyRule};
-ghost use Rattle.totals.specs.Sums.{entryIs, entryHasSums};
-ghost use Rattle.totals.specs.Inner.Turns.{TotalsOf};
+ghost use Rattle.totals.specs.Sums.{rowBy, entryIs, entryHasSums};
+ghost use Rattle.totals.specs.Inner.Totals.{sumAt};
+ghost use Rattle.totals.specs.Inner.Turns.{TotalsOf, SumRoom, Added};
+use market::Basis;
 use market::Region;
 use records::rows;
+use records::rows::EnergyRow;
 use records::rows::Entry;
 use sections::Checked;
 
@@ -20,12 +22,45 @@ pub struct Totals {
     pub residual: [u64; 5],
 }
 
+// Where a book's energies lie in the part of its bytes that its region entries begin: the energy rows start at `from`, and there are `rows`.
+pub struct EnergyPart {
+    pub from: usize,
+    pub rows: usize,
+}
+
+// An energy row's energy of one kind.
+pub fn row_by(basis: Basis, r: EnergyRow) -> u64
+    ensures { λ x. ⌜ x ≡ rowBy basis r ⌝ }
+{
+    match basis {
+        Basis::Ace => r.ace as u64,
+        Basis::Asoe => r.asoe as u64,
+        Basis::Residual => (r.race as u64) + (r.rasoe as u64),
+    }
+}
+
 // One more number in region g's sum.
-pub fn bump(a: &mut [u64; 5], g: usize, x: u64)
-    requires { ⌜ (g < 5) × ((getD (now a) g 0 ≤ moneyLimit) × (x ≤ 40_000_000)) ⌝ }
+fn bump(a: &mut [u64; 5], g: usize, x: u64)
+    requires { ⌜ (g < 5) × ((getD (now a) g 0 ≤ 8_796_093_022_208) × (x ≤ 8_589_934_590)) ⌝ }
     ensures { λ _. ⌜ now (a .exit) ≡ set (now (a .entry)) g (getD (now (a .entry)) g 0 + x) ⌝ }
 {
     a[g] = a[g] + x;
+}
+
+// A row added to the sums of its region, g.
+pub fn add_row(
+    ace: &mut [u64; 5],
+    asoe: &mut [u64; 5],
+    residual: &mut [u64; 5],
+    r: EnergyRow,
+    g: usize,
+)
+    requires { ⌜ (g < 5) × SumRoom (record { ace = now ace; asoe = now asoe; residual = now residual }) g ⌝ }
+    ensures { λ _. ⌜ Added (record { ace = now (ace .entry); asoe = now (asoe .entry); residual = now (residual .entry) }) g r (record { ace = now (ace .exit); asoe = now (asoe .exit); residual = now (residual .exit) }) ⌝ }
+{
+    bump(ace, g, row_by(Basis::Ace, r));
+    bump(asoe, g, row_by(Basis::Asoe, r));
+    bump(residual, g, row_by(Basis::Residual, r));
 }
 
 // The sums of the n energy rows by region.
@@ -40,10 +75,7 @@ fn by_region(energy: &[u8], n: usize) -> Totals
     let mut i = 0;
     while i < n {
         let r = rows::energy_row(energy, i);
-        let g = r.region as usize;
-        bump(&mut ace, g, r.ace as u64);
-        bump(&mut asoe, g, r.asoe as u64);
-        bump(&mut residual, g, (r.race as u64) + (r.rasoe as u64));
+        add_row(&mut ace, &mut asoe, &mut residual, r, r.region as usize);
         i += 1;
     }
     Totals {
@@ -56,7 +88,7 @@ fn by_region(energy: &[u8], n: usize) -> Totals
 // Whether a region's entry has the region's sums.
 pub fn entry_is(e: Entry, t: Totals, g: usize) -> bool
     requires { ⌜ g < 5 ⌝ }
-    ensures { λ b. ⌜ b ≡ entryIs e (getD (t .ace) g 0) (getD (t .asoe) g 0) (getD (t .residual) g 0) ⌝ }
+    ensures { λ b. ⌜ b ≡ entryIs e (sumAt t g) ⌝ }
 {
     let ace = t.ace;
     let asoe = t.asoe;

@@ -3,16 +3,16 @@ use Prim.Native.Nat.{ℕ, _≤_, _<_}
 use mathlib.Core.Path.{_≡_, ap, _∙_}
 use mathlib.Core.Bool.{Bool, true, false, cond}
 use native.Mathlib.Omega.{arith}
-use native.Mathlib.Nat.{le-trans}
 use Rattle.sections.proofs.Total.{total-bound, total-under}
-use Rattle.market.specs.Kinds.{raises, regulates, bitSet}
-use Rattle.rules.specs.Inner.Facts.{EntryRule}
+use Rattle.market.specs.Kinds.{basisOf, bitSet}
+use Rattle.market.specs.declared.Basis.the-variants.{Ace, Asoe}
 use Rattle.records.specs.declared.rows.Entry.{Entry}
 use Rattle.records.specs.declared.rows.Constraint.{Constraint}
-use Rattle.totals.specs.Divisors.{basisOf, countedIn, overRegions}
+use Rattle.totals.specs.Sums.{entryBy}
+use Rattle.totals.specs.Divisors.{countedIn, overRegions}
 use Rattle.totals.specs.Inner.Totals.{entryOf}
 use Rattle.totals.specs.declared.entries.Totals.{Totals}
-use Rattle.totals.proofs.Turns.{share-small}
+use Rattle.totals.proofs.Turns.{under-rule, share-small}
 use Rattle.book.specs.Book.{Book}
 use Rattle.book.specs.Inner.Accepted.{AtMostEntry, Promise}
 use Rattle.lines.specs.Inner.Shared.{Shared}
@@ -22,25 +22,14 @@ use Rattle.count.specs.Inner.Counts.{Countable}
 
 -- ---- an account's energy in a region
 
--- it is as small as the region's
-within-rule : (e x : Entry) → AtMostEntry e (x .ace) (x .asoe) (x .residual) → EntryRule e → EntryRule x
-within-rule e x w h =
-    record {
-      ace = le-trans (w .ace) (h .ace);
-      asoe = le-trans (w .asoe) (h .asoe);
-      residual = le-trans (w .residual) (h .residual);
-    }
-
--- and so is what a constraint counts of it
-within-share : (r : Constraint) (e x : Entry) (g : ℕ) → AtMostEntry e (x .ace) (x .asoe) (x .residual) → countedIn r x g ≤ countedIn r e g
-unfolding countedIn basisOf
-within-share r e x g w = by (bitSet (r .mask) g) (regulates (r .service)) (raises (r .service))
+-- what a constraint counts of it is no more than what it counts of the region's
+within-share : (r : Constraint) (e x : Entry) (g : ℕ) → AtMostEntry e x → countedIn r x g ≤ countedIn r e g
+unfolding countedIn
+within-share r e x g w = by (bitSet (r .mask) g)
   where
-    by : (a b c : Bool) → cond a (cond b (x .residual) (cond c (x .asoe) (x .ace))) 0 ≤ cond a (cond b (e .residual) (cond c (e .asoe) (e .ace))) 0
-    by true true c = w .residual
-    by true false true = w .asoe
-    by true false false = w .ace
-    by false b c = omega arith
+    by : (a : Bool) → cond a (entryBy (basisOf (r .service)) x) 0 ≤ cond a (entryBy (basisOf (r .service)) e) 0
+    by true = w .each (basisOf (r .service))
+    by false = omega arith
 
 -- ---- an accepted book
 
@@ -63,7 +52,7 @@ module _ (B : Book) (h : Promise B) where
         bare = bare-of;
       }
 
-  module _ (own : Totals) (own-within : (g : ℕ) → g < 5 → AtMostEntry (B .entry g) (entryOf own g .ace) (entryOf own g .asoe) (entryOf own g .residual)) where
+  module _ (own : Totals) (own-within : (g : ℕ) → g < 5 → AtMostEntry (B .entry g) (entryOf own g)) where
     -- the account's energy over a constraint's regions is part of a total that is not 0
     pub shared-of : (j : ℕ) → j < B .header .constraints → Shared (overRegions (entryOf own) (B .constraint j)) (overRegions (B .entry) (B .constraint j))
     shared-of j l =
@@ -83,7 +72,7 @@ module _ (B : Book) (h : Promise B) where
           names = countable-of .names;
           bare = bare-of;
           entries = h .sound .fields .entries;
-          energy = λ g b. within-rule (B .entry g) (entryOf own g) (own-within g b) (h .sound .fields .entries g b);
+          energy = λ g b. under-rule (own-within g b .each) (h .sound .fields .entries g b);
           shared = shared-of;
         }
 
@@ -92,8 +81,8 @@ module _ (B : Book) (h : Promise B) where
     payable-of k l =
         record {
           rule = h .sound .fields .contracts k l;
-          ace = λ g b d. part (own-within g b .ace) (h .funded k l g b d .ace) (h .sound .fields .entries g b .ace);
-          asoe = λ g b d. part (own-within g b .asoe) (h .funded k l g b d .asoe) (h .sound .fields .entries g b .asoe);
+          ace = λ g b d. part (own-within g b .each Ace) (h .funded k l g b d .ace) (h .sound .fields .entries g b .ace);
+          asoe = λ g b d. part (own-within g b .each Asoe) (h .funded k l g b d .asoe) (h .sound .fields .entries g b .asoe);
         }
       where
         part : {x y : ℕ} → x ≤ y → 0 < y → y ≤ 20_000_000 → Shared x y

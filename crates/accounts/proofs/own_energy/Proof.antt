@@ -1,8 +1,9 @@
 -- `accounts::own_energy` meets its contract. The invariant, `Sums`: each place has the sum of its region over the account's rows so far. The measure is what is left. Assumes nothing.
 use Prim.Native.Nat.{_-_}
 use native.Mathlib.Omega.{arith}
+use borrow.Author.Needs.{needs}
 use Rattle.records.specs.Rows.{energyRow}
-use Rattle.accounts.proofs.Turns.{Sums, sums-start, own-at, own-room, sums-more, sums-end}
+use Rattle.accounts.proofs.Turns.{Sums, sums-start, own-at, own-room, own-more, sums-end}
 use Rattle.accounts.proofs.own_energy.Statement.{statement}
 use Rattle.accounts.proofs.own_energy.Tie as tie
 
@@ -27,13 +28,24 @@ energy-row-requires : tie.Need-energy-row-requires Inv-loop μ-loop
 unfolding energyRow
 energy-row-requires c κs = omega (arith, own-at (energyRow (c .before .before .before .before .before .args .energy .now)) _ _ _ (c .before .before .loop .inv) (c .before .has-key .ensures) (c .if1 .taken) .0)
 
+cast-add-row : tie.Need-cast-add-row Inv-loop μ-loop
+cast-add-row c = search needs
+
 add-row-requires : tie.Need-add-row-requires Inv-loop μ-loop
 unfolding energyRow
-add-row-requires c κs = own-room (energyRow (c .before .before .before .before .before .before .before .before .before .args .energy .now)) _ _ _ (c .before .before .before .before .before .before .loop .inv) (c .before .before .before .before .before .has-key .ensures) (c .before .before .before .before .if1 .taken) (c .before .before .before .energy-row .ensures) (c .before .before .before .before .before .before .before .before .before .pre .1 .0) (c .before .before .before .before .before .before .before .before .before .pre .0 .1)
+add-row-requires c κs =
+    let row = c .before .before .before .before in
+    let turn = row .before .before .before in
+    let start = turn .before .before .before in
+    own-room (energyRow (start .args .energy .now)) _ _ _ (turn .loop .inv) (row .before .before .has-key .ensures) (row .before .if1 .taken) (row .energy-row .ensures) (start .pre .1 .0) (start .pre .0 .1)
 
 loop-again : tie.Need-loop-again Inv-loop μ-loop
 unfolding energyRow
-loop-again c = sums-more (energyRow (c .before .before .before .before .before .before .before .before .before .before .args .energy .now)) _ _ _ (c .before .before .before .before .before .before .before .loop .inv) (c .before .before .before .before .before .before .has-key .ensures) (c .before .before .before .before .before .if1 .taken) (c .before .before .before .before .energy-row .ensures) (c .before .before .before .before .before .before .before .before .before .before .pre .1 .0) (c .add-row .ensures)
+loop-again c =
+    let row = c .before .before .before .before .before in
+    let turn = row .before .before .before in
+    let start = turn .before .before .before in
+    own-more (energyRow (start .args .energy .now)) _ _ _ (turn .loop .inv) (row .before .before .has-key .ensures) (row .before .if1 .taken) (row .energy-row .ensures) (start .pre .1 .0) (c .add-row .ensures)
 
 add-i : tie.Need-add-i Inv-loop μ-loop
 add-i c = omega (arith, loop-again c .run .high)
@@ -55,6 +67,7 @@ own-energy-spec =
     loop-holds
     has-key-requires
     energy-row-requires
+    cast-add-row
     add-row-requires
     add-i
     loop-less

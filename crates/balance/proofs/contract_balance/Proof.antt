@@ -1,7 +1,8 @@
 -- `balance::contract_balance` meets its contract. The contract stands in the book, and its pool is what all accounts pay. Assumes nothing.
 use borrow.Author.Needs.{needs}
 use Rattle.book.specs.Book.{bookIn}
-use Rattle.balance.proofs.Ends.{of-contract, end-paid}
+use Rattle.accounts.proofs.Parts.{part-energies, part-laid, part-sound}
+use Rattle.balance.proofs.Ends.{paid-in, end-paid}
 use Rattle.balance.proofs.contract_balance.Statement.{statement}
 use Rattle.balance.proofs.contract_balance.Tie as tie
 
@@ -23,11 +24,32 @@ contract-row-requires c κs = search needs
 accounts-requires : tie.Need-accounts-requires
 accounts-requires c κs = search needs
 
+sub-contract : tie.Need-sub-contract
+sub-contract c = search needs
+
+part-contract-start : tie.Need-part-contract-start
+part-contract-start c = search needs
+
+part-contract-end : tie.Need-part-contract-end
+part-contract-end c = search needs
+
+part-of-requires : tie.Need-part-of-requires
+part-of-requires c κs = search needs
+
 contract-requires : tie.Need-contract-requires
-contract-requires c κs = (c .before .before .before .before .before .pre .0, (c .before .before .before .before .before .pre .1 .0, (of-contract {B = bookIn (c .before .before .before .before .before .args .book .now) (c .before .before .before .before .before .args .h)} (c .before .before .before .before .before .pre .1 .0) _ (c .before .before .before .before .before .pre .1 .1) _ (rw (c .before .before .before .contracts-at .ensures) at (c .before .contract-row .ensures)), c .accounts .ensures)))
+contract-requires c κs =
+    let start = c .before .before .before .before .before .before .before in
+    let book = start .args .book .now in
+    let h = start .args .h in
+    let e = c .part-of .ensures in
+    (part-laid book h _ e (start .pre .0), (part-sound book h _ e (start .pre .1 .0), (paid-in {B = bookIn book h} (start .pre .1 .0) _ (start .pre .1 .1) _ (rw (c .before .before .before .before .before .contracts-at .ensures) at (c .before .before .before .contract-row .ensures)), c .before .before .accounts .ensures .few)))
 
 returns : tie.Need-returns
-returns c = end-paid {B = bookIn (c .before .before .before .before .before .before .args .book .now) (c .before .before .before .before .before .before .args .h)} (c .before .before .before .before .before .before .pre .1 .0) _ (c .before .before .before .before .before .before .pre .1 .1) _ (rw (c .before .before .before .before .contracts-at .ensures) at (c .before .before .contract-row .ensures)) (c .contract .ensures)
+returns c =
+    let start = c .before .before .before .before .before .before .before .before in
+    let book = start .args .book .now in
+    let h = start .args .h in
+    end-paid {B = bookIn book h} (start .pre .1 .0) _ (start .pre .1 .1) _ (rw (c .before .before .before .before .before .before .contracts-at .ensures) at (c .before .before .before .before .contract-row .ensures)) (part-energies book h _ (c .before .part-of .ensures)) (c .before .before .before .accounts .ensures) (c .contract .ensures)
 
 pub contract-balance-spec : {M : Type 1} → statement M
 contract-balance-spec =
@@ -39,5 +61,9 @@ contract-balance-spec =
     part-contract-row-end
     contract-row-requires
     accounts-requires
+    sub-contract
+    part-contract-start
+    part-contract-end
+    part-of-requires
     contract-requires
     returns)

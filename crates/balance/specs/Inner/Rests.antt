@@ -6,12 +6,15 @@ use mathlib.Core.List.{List}
 use lib.Dec.{eqb}
 use lib.ListN.{length, getD}
 use Rattle.numbers.specs.Round.{roundN}
-use Rattle.ground.specs.Units.{moneyLimit, totalLimit}
+use Rattle.ground.specs.Units.{million, moneyLimit, totalLimit}
 use Rattle.sections.specs.Total.{total}
 use Rattle.rules.specs.Rules.{factorOf}
+use Rattle.records.specs.declared.rows.Entry.{Entry}
 use Rattle.records.specs.declared.rows.Constraint.{Constraint}
 use Rattle.records.specs.declared.rows.Contract.{Contract}
 use Rattle.records.specs.declared.rows.EnergyRow.{EnergyRow}
+use Rattle.totals.specs.Inner.Energies.{Energies}
+use Rattle.totals.specs.Inner.Facts.{Funded}
 use Rattle.book.specs.Book.{Book}
 use Rattle.amounts.specs.Pools.{halvesOf}
 use Rattle.balance.specs.Pools.{benefiting}
@@ -25,11 +28,11 @@ pub record OfConstraint (B : Book) (r : Constraint) : Type 0 where
   pub within : place < B .header .constraints
   pub same : r ≡ B .constraint place
 
--- k is one of its contracts
-pub record OfContract (B : Book) (k : Contract) : Type 0 where
-  pub place : ℕ
-  pub within : place < B .header .contracts
-  pub same : k ≡ B .contract place
+-- a contract whose payment can be shared by these energies: each region that it benefits has both
+pub record PaidBy (entry : ℕ → Entry) (k : Contract) : Type 0 where
+  pub payment : k .payment ≤ moneyLimit
+  pub factor : (g : ℕ) → g < 5 → factorOf (k .factors) g ≤ million
+  pub funded : (g : ℕ) → g < 5 → (factorOf (k .factors) g ≡ 0 → ⊥) → Funded (entry g)
 
 -- count is the number of its accounts
 pub record Counted (B : Book) (count : ℕ) : Type 0 where
@@ -37,14 +40,14 @@ pub record Counted (B : Book) (count : ℕ) : Type 0 where
   pub few : count ≤ 1624
 
 -- what an amount that is shared over a constraint's regions comes to
-pub record PartIs (B : Book) (r : Constraint) (amount x : ℕ) : Type 0 where
-  pub sum : x ≡ sharedSum B r amount
+pub record PartIs (E : Energies) (r : Constraint) (amount x : ℕ) : Type 0 where
+  pub sum : x ≡ sharedSum E r amount
   pub small : x ≤ 51_200_000_000_000
 
 -- how many regions a contract benefits, and what all accounts pay in them
-pub record PaidIs (B : Book) (k : Contract) (x : Paid) : Type 0 where
+pub record PaidIs (E : Energies) (k : Contract) (x : Paid) : Type 0 where
   pub regions : x .regions ≡ benefiting k
-  pub charge : x .charge ≡ total (regionPaid B k) 5
+  pub charge : x .charge ≡ total (regionPaid E k) 5
   pub few : x .regions ≤ 5
   pub small : x .charge ≤ 102_400_000_000_000
 
@@ -56,11 +59,11 @@ pub record Listed (f : ℕ → ℕ) (m : ℕ) (l : List ℕ) : Type 0 where
   pub each : (g : ℕ) → g < m → getD l g 0 ≡ f g
 
 -- c and s have the halves of the payment, a and o the totals, of the first m regions
-pub record ListsAre (B : Book) (k : Contract) (m : ℕ) (c s a o : List ℕ) : Type 0 where
+pub record ListsAre (entry : ℕ → Entry) (k : Contract) (m : ℕ) (c s a o : List ℕ) : Type 0 where
   pub consumed : Listed (λ g. halvesOf (k .payment) (factorOf (k .factors) g) .consumed) m c
   pub sent : Listed (λ g. halvesOf (k .payment) (factorOf (k .factors) g) .sent) m s
-  pub ace : Listed (λ g. B .entry g .ace) m a
-  pub asoe : Listed (λ g. B .entry g .asoe) m o
+  pub ace : Listed (λ g. entry g .ace) m a
+  pub asoe : Listed (λ g. entry g .asoe) m o
 
 -- a row's rounded shares of two halves, each by its energy of a total
 abbrev pub twoShares : ℕ → ℕ → ℕ → ℕ → EnergyRow → ℕ

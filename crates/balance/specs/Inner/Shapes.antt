@@ -9,7 +9,8 @@ use Rattle.numbers.specs.Round.{roundN}
 use Rattle.numbers.specs.Sign.{less}
 use Rattle.ground.specs.Units.{million}
 use Rattle.sections.specs.Total.{total}
-use Rattle.market.specs.Kinds.{raises, regulates}
+use Rattle.market.specs.Kinds.{basisOf}
+use Rattle.market.specs.declared.Basis.the-variants as basis
 use Rattle.rules.specs.Rules.{factorOf}
 use Rattle.records.specs.declared.rows.Entry.{Entry}
 use Rattle.records.specs.declared.rows.Constraint.{Constraint}
@@ -17,13 +18,13 @@ use Rattle.records.specs.declared.rows.UnitRow.{UnitRow}
 use Rattle.records.specs.declared.rows.Contract.{Contract}
 use Rattle.factors.specs.Factors.{sumOver}
 use Rattle.totals.specs.Divisors.{overRegions}
+use Rattle.totals.specs.Inner.Energies.{Energies}
 use Rattle.book.specs.Book.{Book}
 use Rattle.amounts.specs.Pools.{poolsOf, residualPools, halvesOf}
 use Rattle.amounts.specs.declared.pools.Pools.{Pools}
 use Rattle.amounts.specs.declared.pools.Residual.{Residual}
+use Rattle.accounts.specs.Inner.Energies.{energiesOf}
 use Rattle.sharing.specs.Inner.Shares.{partSum}
-use Rattle.sharing.specs.declared.shares.Basis.{Basis}
-use Rattle.sharing.specs.declared.shares.Basis.the-variants as basis
 use Rattle.sharing.specs.declared.shares.Part.{Part}
 use Rattle.balance.specs.Pools.{recovers, benefiting}
 use Rattle.balance.specs.Balance.{accountsOf}
@@ -105,13 +106,9 @@ unitCharge unit m id kind pool = sumOver unit m id (λ q. roundN (pool * belowBy
 
 -- ---- shared by energy
 
--- "ASOE for raise, ACE for lower", regulation by residual energy
-unfoldable pub constraintBasis : Constraint → Basis
-constraintBasis r = cond (regulates (r .service)) basis.Residual (cond (raises (r .service)) basis.Asoe basis.Ace)
-
 -- an amount shared over a constraint's regions
 unfoldable pub partOf : (ℕ → Entry) → Constraint → ℕ → Part
-partOf entry r amount = record { amount = amount; whole = overRegions entry r; mask = r .mask; basis = constraintBasis r }
+partOf entry r amount = record { amount = amount; whole = overRegions entry r; mask = r .mask; basis = basisOf (r .service) }
 
 -- the two halves of a contract's payment in region g
 unfoldable pub consumedPart : (ℕ → Entry) → Contract → ℕ → Part
@@ -123,23 +120,23 @@ sentPart entry k g =
     record { amount = halvesOf (k .payment) (factorOf (k .factors) g) .sent; whole = entry g .asoe; mask = 2 ^ g; basis = basis.Asoe }
 
 -- what all accounts pay in region g, where the contract benefits it
-unfoldable pub regionPaid : Book → Contract → ℕ → ℕ
-regionPaid B k g =
+unfoldable pub regionPaid : Energies → Contract → ℕ → ℕ
+regionPaid E k g =
     cond (eqb (factorOf (k .factors) g) 0) 0
-    (partSum (consumedPart (B .entry) k g) (B .energy) (B .header .energies) + partSum (sentPart (B .entry) k g) (B .energy) (B .header .energies))
+    (partSum (consumedPart (E .entry) k g) (E .row) (E .rows) + partSum (sentPart (E .entry) k g) (E .row) (E .rows))
 
 -- what an amount that is shared over a constraint's regions comes to over all accounts
-abbrev pub sharedSum : Book → Constraint → ℕ → ℕ
-sharedSum B r amount = partSum (partOf (B .entry) r amount) (B .energy) (B .header .energies)
+abbrev pub sharedSum : Energies → Constraint → ℕ → ℕ
+sharedSum E r amount = partSum (partOf (E .entry) r amount) (E .row) (E .rows)
 
--- ---- the balance of each kind of pool
+-- ---- the balance of each kind of pool, of so many accounts
 
-unfoldable pub contingencyShape : Book → Constraint → Balance
-contingencyShape B r =
+unfoldable pub contingencyShape : Energies → ℕ → Constraint → Balance
+contingencyShape E accounts r =
     record {
       amount = pos (r .cost);
-      lines = length (accountsOf B);
-      sum = less 0 (sharedSum B r (r .cost));
+      lines = accounts;
+      sum = less 0 (sharedSum E r (r .cost));
     }
 
 unfoldable pub regulationShape : Book → Constraint → Kind → Balance
@@ -149,15 +146,15 @@ regulationShape B r kind =
       lines = unitRows (B .unit) (B .header .units) (r .id) + length (accountsOf B);
       sum =
           less
-          (unitCredit (B .unit) (B .header .units) (r .id) kind (poolBy kind (poolsOf r)) + sharedSum B r (creditBy kind (residualPools r (poolsOf r))))
-          (unitCharge (B .unit) (B .header .units) (r .id) kind (poolBy kind (poolsOf r)) + sharedSum B r (chargeBy kind (residualPools r (poolsOf r))));
+          (unitCredit (B .unit) (B .header .units) (r .id) kind (poolBy kind (poolsOf r)) + sharedSum (energiesOf B) r (creditBy kind (residualPools r (poolsOf r))))
+          (unitCharge (B .unit) (B .header .units) (r .id) kind (poolBy kind (poolsOf r)) + sharedSum (energiesOf B) r (chargeBy kind (residualPools r (poolsOf r))));
     }
 
 -- two lines of each account in each benefiting region
-unfoldable pub contractShape : Book → Contract → Balance
-contractShape B k =
+unfoldable pub contractShape : Energies → ℕ → Contract → Balance
+contractShape E accounts k =
     record {
       amount = pos (k .payment);
-      lines = benefiting k * (2 * length (accountsOf B));
-      sum = less 0 (total (regionPaid B k) 5);
+      lines = benefiting k * (2 * accounts);
+      sum = less 0 (total (regionPaid E k) 5);
     }

@@ -5,8 +5,9 @@ use mathlib.Core.Bool.{true, _&&_, cond}
 use mathlib.Core.List.{List}
 use lib.Dec.{eqb}
 use lib.ListN.{length}
-use Rattle.sections.specs.Total.{total, totalOf}
+use Rattle.sections.specs.Total.{total}
 use Rattle.calendar.specs.Calendar.{isPeriod}
+use Rattle.market.specs.declared.Basis.{Basis}
 use Rattle.rules.specs.Rules.{factorOf}
 use Rattle.records.specs.declared.rows.Entry.{Entry}
 use Rattle.records.specs.declared.rows.UnitRow.{UnitRow}
@@ -14,7 +15,7 @@ use Rattle.records.specs.declared.rows.EnergyRow.{EnergyRow}
 use Rattle.factors.specs.Inner.Facts.{Owner}
 use Rattle.factors.specs.Factors.{sumOver}
 use Rattle.factors.specs.Inner.Facts.{Whole, Plain}
-use Rattle.totals.specs.Sums.{regionOf, aceOf, asoeOf, teOf}
+use Rattle.totals.specs.Sums.{entryBy, rowBy, entryWith, sumIn}
 use Rattle.totals.specs.Inner.Facts.{SumsTo}
 use Rattle.totals.specs.Divisors.{overRegions}
 use Rattle.totals.specs.Inner.Facts.{Funded}
@@ -27,19 +28,13 @@ unfoldable pub ownTotal : Book → ℕ → ℕ → (EnergyRow → ℕ) → ℕ
 ownTotal B account g f =
     total (λ i. cond (eqb (B .energy i .account) account && eqb (B .energy i .region) g) (f (B .energy i)) 0) (B .header .energies)
 
--- an account's own energy in a region is at most the region's total: x, y, z are its ACE, ASOE and residual energy there, by their sizes
-pub record AtMostEntry (e : Entry) (x y z : ℕ) : Type 0 where
-  pub ace : x ≤ e .ace
-  pub asoe : y ≤ e .asoe
-  pub residual : z ≤ e .residual
+-- an account's own energy in a region, x, is at most the region's total, of each kind
+pub record AtMostEntry (e x : Entry) : Type 0 where
+  pub each : (b : Basis) → entryBy b x ≤ entryBy b e
 
 -- an account's own energy in region g is at most the region's
 abbrev pub OwnAtMost : Book → ℕ → ℕ → Type 0
-OwnAtMost B account g =
-    AtMostEntry (B .entry g)
-    (ownTotal B account g (λ r. r .ace))
-    (ownTotal B account g (λ r. r .asoe))
-    (ownTotal B account g (λ r. r .race + r .rasoe))
+OwnAtMost B account g = AtMostEntry (B .entry g) (entryWith (λ b. ownTotal B account g (rowBy b)))
 
 -- the sum of a number over the unit rows of constraint j
 abbrev pub unitTotal : Book → ℕ → (UnitRow → ℕ) → ℕ
@@ -54,11 +49,7 @@ PlainAt B j = Plain (B .constraint j) (unitTotal B j (λ r. r .pcf)) (unitTotal 
 
 -- region g's entry is the sum of its rows
 abbrev pub EntrySumsAt : Book → ℕ → Type 0
-EntrySumsAt B g =
-    SumsTo (B .entry g)
-    (totalOf (regionOf (B .energy)) g (aceOf (B .energy)) (B .header .energies))
-    (totalOf (regionOf (B .energy)) g (asoeOf (B .energy)) (B .header .energies))
-    (totalOf (regionOf (B .energy)) g (teOf (B .energy)) (B .header .energies))
+EntrySumsAt B g = SumsTo (B .entry g) (sumIn (B .energy) (B .header .energies) g)
 
 -- what checks 1 to 9 promise of a book's records
 pub record Sound (B : Book) : Type 0 where

@@ -3,7 +3,6 @@ use Prim.Native.Nat.{ℕ, _+_, _*_, _≤_, _<_}
 use mathlib.Core.Path.{_≡_}
 use mathlib.Core.Bool.{Bool, true, false, _&&_}
 use lib.Dec.{eqb, leb, ltb}
-use lib.ListN.{getD, set}
 use Rattle.sections.specs.Order.{risesBy}
 use Rattle.rules.specs.Rules.{energyBelow}
 use Rattle.records.specs.declared.rows.EnergyRow.{EnergyRow}
@@ -22,18 +21,6 @@ rowHolds before r =
 -- row i holds by itself, with an account from 1, and is above the row before it
 abbrev pub rowKeeps : (ℕ → EnergyRow) → ℕ → Bool
 rowKeeps energy i = rowHolds 4_294_967_295 (energy i) && risesBy energyBelow energy i
-
--- region g's sums have room for a row
-pub record SumRoom (t : Totals) (g : ℕ) : Type 0 where
-  pub ace : getD (t .ace) g 0 ≤ 8_796_093_022_208
-  pub asoe : getD (t .asoe) g 0 ≤ 8_796_093_022_208
-  pub residual : getD (t .residual) g 0 ≤ 8_796_093_022_208
-
--- the sums with a row more in region g
-pub record EnergyAdded (t : Totals) (g : ℕ) (r : EnergyRow) (x : Totals) : Type 0 where
-  pub ace : x .ace ≡ set (t .ace) g (getD (t .ace) g 0 + r .ace)
-  pub asoe : x .asoe ≡ set (t .asoe) g (getD (t .asoe) g 0 + r .asoe)
-  pub residual : x .residual ≡ set (t .residual) g (getD (t .residual) g 0 + (r .race + r .rasoe))
 
 -- of n rows the first i are taken, which hold but for the limit of their energies, and the next, if there is one, does not; t has their sums
 pub record SummedIs (energy : ℕ → EnergyRow) (n i : ℕ) (t : Totals) : Type 0 where

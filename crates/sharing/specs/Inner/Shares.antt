@@ -1,5 +1,5 @@
 -- What a part of a pool that is shared by energy comes to over all accounts, and what that rests on.
-use Prim.Native.Nat.{ℕ, _+_, _*_, _≤_, _<_}
+use Prim.Native.Nat.{ℕ, _*_, _≤_, _<_}
 use mathlib.Core.Path.{_≡_}
 use mathlib.Core.List.{[]}
 use mathlib.Core.Bool.{cond}
@@ -11,22 +11,15 @@ use Rattle.sections.specs.Inner.Order.{PairsRise}
 use Rattle.market.specs.Kinds.{bitSet}
 use Rattle.rules.specs.Inner.Facts.{EnergyRule}
 use Rattle.records.specs.declared.rows.EnergyRow.{EnergyRow}
+use Rattle.totals.specs.Sums.{rowBy}
 use Rattle.accounts.specs.Rows.{sumOf}
 use Rattle.sharing.specs.Once.{named}
-use Rattle.sharing.specs.declared.shares.Basis.{Basis}
-use Rattle.sharing.specs.declared.shares.Basis.the-variants.{Ace, Asoe, Residual}
 use Rattle.sharing.specs.declared.shares.Part.{Part}
 use Rattle.sharing.specs.Accounts.{energyAccount}
 
--- the energy of a row of one kind. "TE is |residual ACE| + |residual ASOE|"
-unfoldable pub byBasis : Basis → EnergyRow → ℕ
-byBasis Ace r = r .ace
-byBasis Asoe r = r .asoe
-byBasis Residual r = r .race + r .rasoe
-
 -- the energy of a row that a part counts: of its kind, in its regions
 unfoldable pub energyIn : Part → EnergyRow → ℕ
-energyIn p r = cond (bitSet (p .mask) (r .region)) (byBasis (p .basis) r) 0
+energyIn p r = cond (bitSet (p .mask) (r .region)) (rowBy (p .basis) r) 0
 
 -- an account's own energy in a part, over the n energy rows
 unfoldable pub ownInPart : Part → (ℕ → EnergyRow) → ℕ → ℕ → ℕ

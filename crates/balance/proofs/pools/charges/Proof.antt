@@ -2,24 +2,27 @@
 use Prim.Native.Nat.{_-_, _≤_}
 use native.Mathlib.Omega.{arith}
 use borrow.Author.Needs.{needs}
-use Rattle.book.specs.Book.{bookIn}
-use Rattle.book.proofs.Room.{energies-room}
+use Rattle.records.specs.Rows.{entryRow}
 use Rattle.balance.specs.Inner.Rests.{ListsAre}
-use Rattle.balance.proofs.Payments.{lists-none, lists-all, payable-at, charges-are}
+use Rattle.balance.proofs.Payments.{lists-none, lists-all, all-payable, charges-are}
+use Rattle.balance.proofs.Resting.{rows-room}
 use Rattle.balance.proofs.pools.charges.Statement.{statement}
 use Rattle.balance.proofs.pools.charges.Tie as tie
 
 abbrev Inv-loop : tie.InvT-loop
-Inv-loop book h k consumed₀ sent₀ ace₀ asoe₀ g₀ consumed sent ace asoe g = (g ≤ 5) × ListsAre (bookIn book h) k g consumed sent ace asoe
+Inv-loop bytes e k consumed₀ sent₀ ace₀ asoe₀ g₀ consumed sent ace asoe g = (g ≤ 5) × ListsAre (entryRow bytes) k g consumed sent ace asoe
 
 abbrev μ-loop : tie.MeasureT-loop
-μ-loop book h k consumed₀ sent₀ ace₀ asoe₀ g₀ consumed sent ace asoe g = 5 - g
+μ-loop bytes e k consumed₀ sent₀ ace₀ asoe₀ g₀ consumed sent ace asoe g = 5 - g
 
 loop-holds : tie.Need-loop-holds Inv-loop μ-loop
 loop-holds c = (omega arith, lists-none _ _)
 
 fill-requires : tie.Need-fill-requires Inv-loop μ-loop
-fill-requires c κs = let pre = c .before .before .before .before .before .before .before .pre in (pre .0, (pre .1 .0, (pre .1 .1, (c .before .before .before .before .loop-test .taken, c .before .before .before .before .before .loop .inv .1))))
+fill-requires c κs =
+    let loop = c .before .before .before .before .before in
+    let pre = loop .before .before .pre in
+    ((pre .0 .entries, pre .1 .1), (c .before .before .before .before .loop-test .taken, loop .loop .inv .1))
 
 add-g : tie.Need-add-g Inv-loop μ-loop
 add-g c = omega arith
@@ -30,9 +33,6 @@ loop-less c = omega arith
 loop-again : tie.Need-loop-again Inv-loop μ-loop
 loop-again c = (omega arith, c .fill .ensures)
 
-energies-at-requires : tie.Need-energies-at-requires Inv-loop μ-loop
-energies-at-requires c κs = search needs
-
 sub-pays : tie.Need-sub-pays Inv-loop μ-loop
 sub-pays c = search needs
 
@@ -42,21 +42,17 @@ part-pays-start c = search needs
 part-pays-end : tie.Need-part-pays-end Inv-loop μ-loop
 part-pays-end c = search needs
 
-cast-pays : tie.Need-cast-pays Inv-loop μ-loop
-cast-pays c = search needs
-
 pays-requires : tie.Need-pays-requires Inv-loop μ-loop
 pays-requires c κs =
-    let start = c .before .before .before .before .before .before .before .before .before .before .before .before in
-    let loop = c .before .before .before .before .before .before .before .before .before .before .loop in
-    let at-end = c .before .before .before .before .before .before .before .energies-at .ensures in
-    (energies-room _ _ (start .pre .0) _ at-end, payable-at (start .args .book .now) (start .args .h) _ at-end (start .pre .1 .0) (start .args .k) (start .pre .1 .1) (lists-all _ _ _ (loop .inv .1) (loop .inv .0) (omega arith)))
+    let loop = c .before .before .before .before .before .before .before .before in
+    let pre = loop .before .before .pre in
+    (rows-room _ _ (pre .0), all-payable (pre .1 .0) _ (pre .1 .1) (lists-all _ _ _ (loop .loop .inv .1) (loop .loop .inv .0) (omega arith)))
 
 returns : tie.Need-returns Inv-loop μ-loop
 returns c =
-    let start = c .before .before .before .before .before .before .before .before .before .before .before .before .before in
-    let loop = c .before .before .before .before .before .before .before .before .before .before .before .loop in
-    charges-are (start .args .book .now) (start .args .h) _ (c .before .before .before .before .before .before .before .before .energies-at .ensures) (start .pre .1 .0) (start .args .k) (start .pre .1 .1) (lists-all _ _ _ (loop .inv .1) (loop .inv .0) (omega (arith, c .before .before .before .before .before .before .before .before .before .before .loop-test .left))) (c .pays .ensures)
+    let loop = c .before .before .before .before .before .before .before .before .before in
+    let pre = loop .before .before .pre in
+    charges-are (pre .1 .0) _ (pre .1 .1) (lists-all _ _ _ (loop .loop .inv .1) (loop .loop .inv .0) (omega arith)) (c .pays .ensures)
 
 pub charges-spec : {M : Type 1} → statement M
 charges-spec =
@@ -69,10 +65,8 @@ charges-spec =
     add-g
     loop-less
     loop-again
-    energies-at-requires
     sub-pays
     part-pays-start
     part-pays-end
-    cast-pays
     pays-requires
     returns)

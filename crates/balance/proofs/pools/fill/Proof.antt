@@ -1,6 +1,6 @@
 -- `balance::pools::fill` meets its contract. Each list has one number more, that of region g. Assumes nothing.
 use borrow.Author.Needs.{needs}
-use Rattle.balance.proofs.Payments.{lists-more, halves-fit}
+use Rattle.balance.proofs.Payments.{lists-more}
 use Rattle.balance.proofs.pools.fill.Statement.{statement}
 use Rattle.balance.proofs.pools.fill.Tie as tie
 
@@ -11,16 +11,7 @@ array-read-halves-of : tie.Need-array-read-halves-of
 array-read-halves-of c = search needs
 
 halves-of-requires : tie.Need-halves-of-requires
-halves-of-requires c κs = let pre = c .before .before .pre in halves-fit (pre .1 .0) _ (pre .1 .1 .0) _ (pre .1 .1 .1 .0)
-
-sub-entry-row : tie.Need-sub-entry-row
-sub-entry-row c = search needs
-
-part-entry-row-start : tie.Need-part-entry-row-start
-part-entry-row-start c = search needs
-
-part-entry-row-end : tie.Need-part-entry-row-end
-part-entry-row-end c = search needs
+halves-of-requires c κs = let pre = c .before .before .pre in (pre .0 .1 .payment, pre .0 .1 .factor _ (pre .1 .0))
 
 entry-row-requires : tie.Need-entry-row-requires
 entry-row-requires c κs = search needs
@@ -56,7 +47,7 @@ element-write-asoe : tie.Need-element-write-asoe
 element-write-asoe c = search needs
 
 returns : tie.Need-returns
-returns c = let pre = c .before .before .before .before .before .before .before .pre in lists-more _ _ _ (pre .1 .1 .1 .1) (pre .1 .1 .1 .0) (c .before .before .before .before .halves-of .ensures) (c .before .before .entry-row .ensures)
+returns c = let pre = c .before .before .before .before .before .before .pre in lists-more _ _ _ (pre .1 .1) (pre .1 .0) (c .before .before .before .halves-of .ensures) (c .before .before .entry-row .ensures)
 
 pub fill-spec : {M : Type 1} → statement M
 fill-spec =
@@ -65,9 +56,6 @@ fill-spec =
     mul-halves-of
     array-read-halves-of
     halves-of-requires
-    sub-entry-row
-    part-entry-row-start
-    part-entry-row-end
     entry-row-requires
     mul-consumed
     element-write-consumed

@@ -47,7 +47,7 @@ add-t28 : tie.Need-add-t28
 add-t28 c = search needs
 
 charges-requires : tie.Need-charges-requires
-charges-requires c κs = search needs
+charges-requires c κs = c .before .before .before .before .before .before .before .pre
 
 returns : tie.Need-returns
 returns c = paid-is _ _ (c .before .before .before .before .before .benefits .ensures) (c .before .before .before .before .benefits2 .ensures) (c .before .before .before .benefits3 .ensures) (c .before .before .benefits4 .ensures) (c .before .benefits5 .ensures) (c .charges .ensures)

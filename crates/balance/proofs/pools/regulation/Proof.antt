@@ -5,11 +5,8 @@ use borrow.Author.Needs.{needs, sfits-of}
 use mir.Facts.{toZ-ofZ}
 use Rattle.book.proofs.Room.{units-room}
 use Rattle.book.specs.Book.{bookIn}
-use Rattle.balance.proofs.Resting.{constraint-rule, recovery-small, regulation-is}
-use mathlib.Core.Path.{_∙_}
-use Rattle.book.proofs.Room.{units-room}
-use Rattle.balance.proofs.Resting.{constraint-rule, recovery-small, regulation-is}
-use borrow.Author.Needs.{needs}
+use Rattle.accounts.proofs.Parts.{part-laid, part-sound}
+use Rattle.balance.proofs.Resting.{constraint-rule, constraint-divides, part-in, recovery-small, regulation-is}
 use Rattle.balance.proofs.pools.regulation.Statement.{statement}
 use Rattle.balance.proofs.pools.regulation.Tie as tie
 
@@ -32,43 +29,78 @@ cast-unit-sums : tie.Need-cast-unit-sums
 cast-unit-sums c = search needs
 
 unit-sums-requires : tie.Need-unit-sums-requires
-unit-sums-requires c κs = ((units-room _ _ (c .before .before .before .before .before .pre .0) _ (c .before .before .units-at .ensures), recovery-small _ _ (constraint-rule (c .before .before .before .before .before .pre .1 .0) _ (c .before .before .before .before .before .pre .1 .1 .0)) (c .before .before .before .recovery-of .ensures) .pool), rw (c .before .before .units-at .ensures) (record { few = c .before .before .before .before .before .pre .1 .0 .sound .few .units; rules = c .before .before .before .before .before .pre .1 .0 .sound .fields .units; keep = record { keep = c .before .before .before .before .before .pre .1 .0 .sound .ordered .units .first } }))
+unit-sums-requires c κs =
+    let start = c .before .before .before .before .before in
+    let from = c .before .before .units-at .ensures in
+    let known = start .pre .1 .0 in
+    ((units-room _ _ (start .pre .0) _ from, recovery-small _ _ (constraint-rule (start .pre .1 .0) _ (start .pre .1 .1 .0)) (c .before .before .before .recovery-of .ensures) .pool), rw from (record { few = known .few .units; rules = known .fields .units; keep = record { keep = known .ordered .units .first } }))
 
-sub-divisor : tie.Need-sub-divisor
-sub-divisor c = search needs
+sub-bytes : tie.Need-sub-bytes
+sub-bytes c = search needs
 
-part-divisor-start : tie.Need-part-divisor-start
-part-divisor-start c = search needs
+part-bytes-start : tie.Need-part-bytes-start
+part-bytes-start c = search needs
 
-part-divisor-end : tie.Need-part-divisor-end
-part-divisor-end c = search needs
+part-bytes-end : tie.Need-part-bytes-end
+part-bytes-end c = search needs
+
+part-of-requires : tie.Need-part-of-requires
+part-of-requires c κs = search needs
 
 divisor-requires : tie.Need-divisor-requires
 divisor-requires c κs = search needs
 
 over-regions-requires : tie.Need-over-regions-requires
-over-regions-requires c κs = (c .before .before .before .before .before .before .before .before .pre .0, (c .before .before .before .before .before .before .before .before .pre .1 .0, (c .before .before .before .before .before .before .before .before .pre .1 .1 .0, (c .divisor .ensures, recovery-small _ _ (constraint-rule (c .before .before .before .before .before .before .before .before .pre .1 .0) _ (c .before .before .before .before .before .before .before .before .pre .1 .1 .0)) (c .before .before .before .before .before .before .recovery-of .ensures) .credit))))
+over-regions-requires c κs =
+    let turn = c in
+    let start = turn .before .before .before .before .before .before .before .before .before in
+    let e = turn .before .part-of .ensures in
+    let rule = constraint-rule (start .pre .1 .0) _ (start .pre .1 .1 .0) in
+    (part-laid (start .args .book .now) (start .args .h) _ e (start .pre .0), (part-sound (start .args .book .now) (start .args .h) _ e (start .pre .1 .0), (turn .divisor .ensures, (rw (turn .divisor .ensures) (constraint-divides (start .pre .1 .0) _ (start .pre .1 .1 .0)), recovery-small _ _ rule (turn .before .before .before .before .before .before .before .recovery-of .ensures) .credit))))
 
 over-regions-requires-2 : tie.Need-over-regions-requires-2
-over-regions-requires-2 c κs = (c .before .before .before .before .before .before .before .before .before .pre .0, (c .before .before .before .before .before .before .before .before .before .pre .1 .0, (c .before .before .before .before .before .before .before .before .before .pre .1 .1 .0, (c .before .divisor .ensures, recovery-small _ _ (constraint-rule (c .before .before .before .before .before .before .before .before .before .pre .1 .0) _ (c .before .before .before .before .before .before .before .before .before .pre .1 .1 .0)) (c .before .before .before .before .before .before .before .recovery-of .ensures) .charge))))
+over-regions-requires-2 c κs =
+    let turn = c .before in
+    let start = turn .before .before .before .before .before .before .before .before .before in
+    let e = turn .before .part-of .ensures in
+    let rule = constraint-rule (start .pre .1 .0) _ (start .pre .1 .1 .0) in
+    (part-laid (start .args .book .now) (start .args .h) _ e (start .pre .0), (part-sound (start .args .book .now) (start .args .h) _ e (start .pre .1 .0), (turn .divisor .ensures, (rw (turn .divisor .ensures) (constraint-divides (start .pre .1 .0) _ (start .pre .1 .1 .0)), recovery-small _ _ rule (turn .before .before .before .before .before .before .before .recovery-of .ensures) .charge))))
 
 signed-requires : tie.Need-signed-requires
-signed-requires c κs = omega (arith, recovery-small _ _ (constraint-rule (c .before .before .before .before .before .before .before .before .before .before .pre .1 .0) _ (c .before .before .before .before .before .before .before .before .before .before .pre .1 .1 .0)) (c .before .before .before .before .before .before .before .before .recovery-of .ensures) .amount)
+signed-requires c κs = let start = c .before .before .before .before .before .before .before .before .before .before .before in omega (arith, recovery-small _ _ (constraint-rule (start .pre .1 .0) _ (start .pre .1 .1 .0)) (c .before .before .before .before .before .before .before .before .before .recovery-of .ensures) .amount)
 
-add-t16 : tie.Need-add-t16
-add-t16 c = omega (arith, c .before .before .before .before .before .before .unit-sums .ensures .few, c .before .before .before .before .before .before .before .before .before .before .before .before .pre .1 .0 .sound .few .units, c .before .before .before .before .before .before .before .before .before .before .before .before .pre .1 .1 .1 .few)
+add-t18 : tie.Need-add-t18
+add-t18 c =
+    let start = c .before .before .before .before .before .before .before .before .before .before .before .before .before in
+    omega (arith, c .before .before .before .before .before .before .before .unit-sums .ensures .few, start .pre .1 .0 .sound .few .units, start .pre .1 .1 .1 .few)
 
 add-net : tie.Need-add-net
-add-net c = omega (arith, c .before .before .before .before .before .before .before .unit-sums .ensures .credit-small, c .before .before .before .before .before .before .before .before .before .before .before .before .before .pre .1 .0 .sound .few .units, c .before .before .before .before .over-regions .ensures .small)
+add-net c =
+    let turn = c .before .before .before .before in
+    omega (arith, turn .before .before .before .before .unit-sums .ensures .credit-small, turn .before .before .before .before .before .before .before .before .before .before .pre .1 .0 .sound .few .units, turn .over-regions .ensures .small)
 
 add-net-2 : tie.Need-add-net-2
-add-net-2 c = omega (arith, c .before .before .before .before .before .before .before .before .unit-sums .ensures .charge-small, c .before .before .before .before .before .before .before .before .before .before .before .before .before .before .pre .1 .0 .sound .few .units, c .before .before .before .before .over-regions2 .ensures .small)
+add-net-2 c =
+    let turn = c .before .before .before .before .before in
+    omega (arith, turn .before .before .before .before .unit-sums .ensures .charge-small, turn .before .before .before .before .before .before .before .before .before .before .pre .1 .0 .sound .few .units, c .before .before .before .before .over-regions2 .ensures .small)
 
 net-requires : tie.Need-net-requires
-net-requires c κs = (omega (arith, c .before .before .before .before .before .before .before .before .unit-sums .ensures .credit-small, c .before .before .before .before .before .before .before .before .before .before .before .before .before .before .pre .1 .0 .sound .few .units, c .before .before .before .before .before .over-regions .ensures .small), omega (arith, c .before .before .before .before .before .before .before .before .unit-sums .ensures .charge-small, c .before .before .before .before .before .before .before .before .before .before .before .before .before .before .pre .1 .0 .sound .few .units, c .before .before .before .before .over-regions2 .ensures .small))
+net-requires c κs =
+    let turn = c .before .before .before .before .before in
+    let sums = turn .before .before .before .before .unit-sums .ensures in
+    let few = turn .before .before .before .before .before .before .before .before .before .before .pre .1 .0 .sound .few .units in
+    (omega (arith, sums .credit-small, few, turn .over-regions .ensures .small), omega (arith, sums .charge-small, few, c .before .before .before .before .over-regions2 .ensures .small))
 
 returns : tie.Need-returns
-returns c = regulation-is (bookIn (c .before .before .before .before .before .before .before .before .before .before .before .before .before .before .before .args .book .now) (c .before .before .before .before .before .before .before .before .before .before .before .before .before .before .before .args .h)) _ (c .before .before .before .before .before .before .before .before .before .before .before .before .before .before .before .pre .1 .1 .1) _ _ _ (c .before .before .before .before .before .before .before .before .before .before .before .before .before .recovery-of .ensures) (rw (c .before .before .before .before .before .before .before .before .before .before .before .before .units-at .ensures) at (c .before .before .before .before .before .before .before .before .before .unit-sums .ensures)) (c .before .before .before .before .before .before .over-regions .ensures) (c .before .before .before .before .before .over-regions2 .ensures) (toZ-ofZ (sfits-of (c .before .before .before .before .signed .ok)) ∙ c .before .before .before .before .signed .ensures) (toZ-ofZ (sfits-of (c .net .ok)) ∙ c .net .ensures)
+returns c =
+    let turn = c .before .before .before .before .before .before in
+    let e = turn .before .before .part-of .ensures in
+    let sums = turn .before .before .before .before in
+    let units = sums .before .before .before .units-at .ensures in
+    let start = turn .before .before .before .before .before .before .before .before .before .before in
+    let book = start .args .book .now in
+    let h = start .args .h in
+    regulation-is (bookIn book h) _ (start .pre .1 .1 .1) _ _ _ (sums .before .before .before .before .recovery-of .ensures) (rw units at (sums .unit-sums .ensures)) (part-in book h e (turn .over-regions .ensures)) (part-in book h e (c .before .before .before .before .before .over-regions2 .ensures)) (toZ-ofZ (sfits-of (c .before .before .before .before .signed .ok)) ∙ c .before .before .before .before .signed .ensures) (toZ-ofZ (sfits-of (c .net .ok)) ∙ c .net .ensures)
 
 pub regulation-spec : {M : Type 1} → statement M
 regulation-spec =
@@ -81,14 +113,15 @@ regulation-spec =
     part-unit-sums-end
     cast-unit-sums
     unit-sums-requires
-    sub-divisor
-    part-divisor-start
-    part-divisor-end
+    sub-bytes
+    part-bytes-start
+    part-bytes-end
+    part-of-requires
     divisor-requires
     over-regions-requires
     over-regions-requires-2
     signed-requires
-    add-t16
+    add-t18
     add-net
     add-net-2
     net-requires

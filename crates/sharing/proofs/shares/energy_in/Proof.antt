@@ -14,11 +14,11 @@ is-in-requires c κs = search needs
 cast-result : tie.Need-cast-result
 cast-result c = search needs
 
-by-basis-requires : tie.Need-by-basis-requires
-by-basis-requires c κs = search needs
+row-by-requires : tie.Need-row-by-requires
+row-by-requires c κs = search needs
 
 returns : tie.Need-returns
-returns c = energy-product _ _ (c .before .before .of .ensures) (c .before .is-in .ensures) (c .by-basis .ensures)
+returns c = energy-product _ _ (c .before .before .of .ensures) (c .before .is-in .ensures) (c .row-by .ensures)
 
 mul-result : tie.Need-mul-result
 mul-result c = omega (arith, returns c, energy-small (c .before .before .before .args .p) (c .before .before .before .args .r) (c .before .before .before .pre))
@@ -26,4 +26,4 @@ mul-result c = omega (arith, returns c, energy-small (c .before .before .before 
 pub energy-in-spec : {M : Type 1} → statement M
 energy-in-spec =
     tie.close
-    (tie.spec of-requires is-in-requires cast-result by-basis-requires mul-result returns)
+    (tie.spec of-requires is-in-requires cast-result row-by-requires mul-result returns)

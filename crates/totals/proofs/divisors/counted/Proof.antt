@@ -1,30 +1,45 @@
--- `totals::divisors::counted` meets its contract. The region's bit decides the case. Assumes nothing.
+-- `totals::divisors::counted` meets its contract. The region's bit decides the case, and the service which energy counts. Assumes nothing.
 use mathlib.Core.Path.{sym, _∙_}
-use borrow.Author.Needs.{needs}
 use Rattle.totals.specs.Divisors.{countedIn}
+use borrow.Author.Needs.{needs}
 use Rattle.totals.proofs.divisors.counted.Statement.{statement}
 use Rattle.totals.proofs.divisors.counted.Tie as tie
-
-cast-of : tie.Need-cast-of
-cast-of c = search needs
 
 of-requires : tie.Need-of-requires
 of-requires c κs = search needs
 
+of-requires-2 : tie.Need-of-requires-2
+of-requires-2 c κs = search needs
+
+cast-of : tie.Need-cast-of
+cast-of c = search needs
+
+of-requires-3 : tie.Need-of-requires-3
+of-requires-3 c κs = search needs
+
 is-in-requires : tie.Need-is-in-requires
 is-in-requires c κs = search needs
 
-basis-requires : tie.Need-basis-requires
-basis-requires c κs = search needs
+energy-in-requires : tie.Need-energy-in-requires
+energy-in-requires c κs = search needs
 
 returns : tie.Need-returns
 unfolding countedIn
-returns c = rw (rw (c .before .before .before .of .ensures) at (sym (c .before .before .is-in .ensures) ∙ c .before .if1 .taken)) (c .basis .ensures)
+returns c = rw (rw (c .before .before .before .of3 .ensures) at (sym (c .before .before .is-in .ensures) ∙ c .before .if1 .taken)) (c .energy-in .ensures ∙ rw (c .before .before .before .before .of2 .ensures, c .before .before .before .before .before .of .ensures))
 
 returns-2 : tie.Need-returns-2
 unfolding countedIn
-returns-2 c = rw (rw (c .before .before .of .ensures) at (sym (c .before .is-in .ensures) ∙ c .if1 .left))
+returns-2 c = rw (rw (c .before .before .of3 .ensures) at (sym (c .before .is-in .ensures) ∙ c .if1 .left))
 
 pub counted-spec : {M : Type 1} → statement M
 counted-spec =
-    tie.close (tie.spec cast-of of-requires is-in-requires basis-requires returns returns-2)
+    tie.close
+    (tie.spec
+    of-requires
+    of-requires-2
+    cast-of
+    of-requires-3
+    is-in-requires
+    energy-in-requires
+    returns
+    returns-2)

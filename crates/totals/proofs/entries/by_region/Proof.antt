@@ -1,12 +1,11 @@
 -- `totals::entries::by_region` meets its contract. The invariant: each place has the sum of its region over the rows so far. The measure is what is left. Assumes nothing.
 use Prim.Native.Nat.{_≤_, _-_}
-use mathlib.Core.Path.{_≡_}
+use mathlib.Core.Path.{_≡_, refl}
 use native.Mathlib.Omega.{arith}
 use borrow.Author.Needs.{needs}
-use Rattle.rules.specs.Inner.Facts.{EnergyRule}
 use Rattle.records.specs.Rows.{energyRow}
 use Rattle.totals.specs.Inner.Turns.{TotalsOf}
-use Rattle.totals.proofs.Turns.{totals-none, totals-more, totals-small}
+use Rattle.totals.proofs.Turns.{totals-none, totals-more, totals-room}
 use Rattle.totals.proofs.entries.by_region.Statement.{statement}
 use Rattle.totals.proofs.entries.by_region.Tie as tie
 
@@ -22,54 +21,28 @@ loop-holds c = (search needs, totals-none _)
 energy-row-requires : tie.Need-energy-row-requires Inv-loop μ-loop
 energy-row-requires c κs = search needs
 
-cast-g : tie.Need-cast-g Inv-loop μ-loop
-cast-g c = search needs
+cast-add-row : tie.Need-cast-add-row Inv-loop μ-loop
+cast-add-row c = search needs
 
-cast-bump : tie.Need-cast-bump Inv-loop μ-loop
-cast-bump c = search needs
-
-bump-requires : tie.Need-bump-requires Inv-loop μ-loop
-bump-requires c κs =
-    let q : EnergyRule (c .before .before .before .energy-row .result) = rw (c .before .before .before .energy-row .ensures) (c .before .before .before .before .before .before .before .pre .1 _ (c .before .before .before .before .loop-test .taken)) in
-    let h = totals-small _ _ _ (c .before .before .before .before .before .before .before .pre .0 .1) (c .before .before .before .before .before .before .before .pre .1) (c .before .before .before .before .before .loop .inv .0) (c .before .before .before .before .before .loop .inv .1) (c .before .before .before .energy-row .result .region) (omega (arith, q .region)) in
-    (omega arith, (h .ace, omega arith))
-
-cast-bump-2 : tie.Need-cast-bump-2 Inv-loop μ-loop
-cast-bump-2 c = search needs
-
-bump-requires-2 : tie.Need-bump-requires-2 Inv-loop μ-loop
-bump-requires-2 c κs =
-    let q : EnergyRule (c .before .before .before .before .before .before .energy-row .result) = rw (c .before .before .before .before .before .before .energy-row .ensures) (c .before .before .before .before .before .before .before .before .before .before .pre .1 _ (c .before .before .before .before .before .before .before .loop-test .taken)) in
-    let h = totals-small _ _ _ (c .before .before .before .before .before .before .before .before .before .before .pre .0 .1) (c .before .before .before .before .before .before .before .before .before .before .pre .1) (c .before .before .before .before .before .before .before .before .loop .inv .0) (c .before .before .before .before .before .before .before .before .loop .inv .1) (c .before .before .before .before .before .before .energy-row .result .region) (omega (arith, q .region)) in
-    (omega arith, (h .asoe, omega arith))
-
-cast-bump-3 : tie.Need-cast-bump-3 Inv-loop μ-loop
-cast-bump-3 c = search needs
-
-cast-bump-4 : tie.Need-cast-bump-4 Inv-loop μ-loop
-cast-bump-4 c = search needs
-
-add-bump : tie.Need-add-bump Inv-loop μ-loop
-add-bump c =
-    let q : EnergyRule (c .before .before .before .before .before .before .before .before .before .before .energy-row .result) = rw (c .before .before .before .before .before .before .before .before .before .before .energy-row .ensures) (c .before .before .before .before .before .before .before .before .before .before .before .before .before .before .pre .1 _ (c .before .before .before .before .before .before .before .before .before .before .before .loop-test .taken)) in
-    omega arith
-
-bump-requires-3 : tie.Need-bump-requires-3 Inv-loop μ-loop
-bump-requires-3 c κs =
-    let q : EnergyRule (c .before .before .before .before .before .before .before .before .before .before .energy-row .result) = rw (c .before .before .before .before .before .before .before .before .before .before .energy-row .ensures) (c .before .before .before .before .before .before .before .before .before .before .before .before .before .before .pre .1 _ (c .before .before .before .before .before .before .before .before .before .before .before .loop-test .taken)) in
-    let h = totals-small _ _ _ (c .before .before .before .before .before .before .before .before .before .before .before .before .before .before .pre .0 .1) (c .before .before .before .before .before .before .before .before .before .before .before .before .before .before .pre .1) (c .before .before .before .before .before .before .before .before .before .before .before .before .loop .inv .0) (c .before .before .before .before .before .before .before .before .before .before .before .before .loop .inv .1) (c .before .before .before .before .before .before .before .before .before .before .energy-row .result .region) (omega (arith, q .region)) in
-    (omega arith, (h .residual, omega arith))
+add-row-requires : tie.Need-add-row-requires Inv-loop μ-loop
+add-row-requires c κs =
+    let start = c .before .before .before .before .before .before .before .before in
+    let loop = c .before .before .before .before .before .before .loop in
+    rw (c .before .before .before .before .energy-row .ensures) (totals-room _ _ _ (start .pre .0 .1) (start .pre .1) (c .before .before .before .before .before .loop-test .taken) (loop .inv .1))
 
 add-i : tie.Need-add-i Inv-loop μ-loop
-add-i c = omega (arith, c .before .before .before .before .before .before .before .before .before .before .before .before .before .before .before .pre .0 .1)
+add-i c = search needs
 
 loop-less : tie.Need-loop-less Inv-loop μ-loop
 loop-less c = search needs
 
 loop-again : tie.Need-loop-again Inv-loop μ-loop
 loop-again c =
-    let q : EnergyRule (c .before .before .before .before .before .before .before .before .before .before .before .energy-row .result) = rw (c .before .before .before .before .before .before .before .before .before .before .before .energy-row .ensures) (c .before .before .before .before .before .before .before .before .before .before .before .before .before .before .before .pre .1 _ (c .before .before .before .before .before .before .before .before .before .before .before .before .loop-test .taken)) in
-    (search needs, totals-more _ _ (c .before .before .before .before .before .before .before .before .before .before .before .before .before .loop .inv .1) (c .before .before .before .before .before .before .before .before .before .before .before .energy-row .ensures) q (record { ace = c .before .before .before .before .before .before .before .bump .ensures; asoe = c .before .before .before .before .bump2 .ensures; residual = c .bump3 .ensures }))
+    let start = c .before .before .before .before .before .before .before .before .before in
+    let read = c .before .before .before .before .before .energy-row .ensures in
+    let loop = c .before .before .before .before .before .before .before .loop in
+    let room = totals-room _ _ _ (start .pre .0 .1) (start .pre .1) (c .before .before .before .before .before .before .loop-test .taken) (loop .inv .1) in
+    (omega arith, totals-more _ _ (loop .inv .1) read refl (rw read (room .0)) (c .add-row .ensures))
 
 returns : tie.Need-returns Inv-loop μ-loop
 returns c = let e : c .before .loop .i ≡ c .before .before .before .args .n = omega arith in rw e at (c .before .loop .inv .1)
@@ -82,15 +55,8 @@ by-region-spec =
     μ-loop
     loop-holds
     energy-row-requires
-    cast-g
-    cast-bump
-    bump-requires
-    cast-bump-2
-    bump-requires-2
-    cast-bump-3
-    cast-bump-4
-    add-bump
-    bump-requires-3
+    cast-add-row
+    add-row-requires
     add-i
     loop-less
     loop-again

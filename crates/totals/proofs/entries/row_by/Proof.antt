@@ -1,8 +1,7 @@
--- `sharing::shares::by_basis` meets its contract. Each kind of energy by itself. Assumes nothing.
+-- `totals::entries::row_by` meets its contract. Each kind of energy by itself. Assumes nothing.
 use borrow.Author.Needs.{needs}
-use Rattle.sharing.specs.Inner.Shares.{byBasis}
-use Rattle.sharing.proofs.shares.by_basis.Statement.{statement}
-use Rattle.sharing.proofs.shares.by_basis.Tie as tie
+use Rattle.totals.proofs.entries.row_by.Statement.{statement}
+use Rattle.totals.proofs.entries.row_by.Tie as tie
 
 enum-told : tie.Need-enum-told
 enum-told c = search needs
@@ -29,19 +28,16 @@ add-result : tie.Need-add-result
 add-result c = search needs
 
 returns : tie.Need-returns
-unfolding byBasis
 returns c = search needs
 
 returns-2 : tie.Need-returns-2
-unfolding byBasis
 returns-2 c = search needs
 
 returns-3 : tie.Need-returns-3
-unfolding byBasis
 returns-3 c = rw (c .before .before .enum-told3 .given .1)
 
-pub by-basis-spec : {M : Type 1} → statement M
-by-basis-spec =
+pub row-by-spec : {M : Type 1} → statement M
+row-by-spec =
     tie.close
     (tie.spec
     enum-told
