@@ -32,7 +32,7 @@ unit-sums-requires : tie.Need-unit-sums-requires
 unit-sums-requires c κs =
     let start = c .before .before .before .before .before in
     let from = c .before .before .units-at .ensures in
-    let known = start .pre .1 .0 in
+    let known = start .pre .1 .0 .sound in
     ((units-room _ _ (start .pre .0) _ from, recovery-small _ _ (constraint-rule (start .pre .1 .0) _ (start .pre .1 .1 .0)) (c .before .before .before .recovery-of .ensures) .pool), rw from (record { few = known .few .units; rules = known .fields .units; keep = record { keep = known .ordered .units .first } }))
 
 sub-bytes : tie.Need-sub-bytes
