@@ -667,6 +667,8 @@ fn an_edge_of_another_shape_is_noticed() {
     }
 }
 
+const CASES: &str = "rust/testing/tests/cases.rs";
+
 /// A page with one rule, all that it names, and a sentence that states none.
 fn one_rule() -> Repository {
     let page = "| 01 | Definition | Function | What shows it |
@@ -682,7 +684,7 @@ const OTHERS: &[Case] = &[\n    \"another\",\n];\n\n#[test]\nfn by_hand() {\n}\n
         ("crates/low/specs/Low.antt", "unfoldable pub limit : N\n"),
         ("crates/low/proofs/Laws.antt", "pub law : Law\n"),
         ("crates/low/must-fail/wrong.edit", OF_HELPER),
-        ("rust/testing/tests/cases.rs", tests),
+        (CASES, tests),
     ])
 }
 
@@ -700,19 +702,9 @@ fn what_a_rule_names_and_is_gone_is_noticed() {
             "low::first",
         ),
         ("crates/low/proofs/Laws.antt", "law", "lemma", "law"),
-        ("rust/testing/tests/cases.rs", "TABLE", "TABLES", "TABLE"),
-        (
-            "rust/testing/tests/cases.rs",
-            "a, case",
-            "a case",
-            "a, case",
-        ),
-        (
-            "rust/testing/tests/cases.rs",
-            "by_hand",
-            "by_hand_too",
-            "by_hand",
-        ),
+        (CASES, "TABLE", "TABLES", "TABLE"),
+        (CASES, "a, case", "a case", "a, case"),
+        (CASES, "by_hand", "by_hand_too", "by_hand"),
         (rules::PAGE, "\"a, case\"", "\"another\"", "another"),
         (
             rules::PAGE,
