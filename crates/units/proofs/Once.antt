@@ -22,11 +22,10 @@ module _ (key : ℕ → ℕ) (n k : ℕ) where
   past-once u v p q = omega (arith, no-later u v p q, no-later v u q p)
 
 pub done-once : (unit : ℕ → UnitRow) (m : ℕ) (r : Constraint) (ls : List Line) (l : List ℕ) (k : ℕ) {b d : List ℕ} {x y : Cursor} → LinesDone unit m r ls l k b x → LinesDone unit m r ls l k d y → (x ≡ y) × (b ≡ d)
-done-once unit m r ls l k {x = x} {y = y} p q =
-    (
-      ap₂ cursor (past-once (keyOf unit) m (r .id) (x .next) (y .next) (p .past) (q .past)) (p .out .next ∙ sym (q .out .next)),
-      p .out .bytes ∙ sym (q .out .bytes),
-    )
+done-once unit m r ls l k {x = x} {y = y} p q = (
+  ap₂ cursor (past-once (keyOf unit) m (r .id) (x .next) (y .next) (p .past) (q .past)) (p .out .next ∙ sym (q .out .next)),
+  p .out .bytes ∙ sym (q .out .bytes),
+)
   where
     cursor : ℕ → ℕ → Cursor
     cursor next place = record { next = next; place = place }
