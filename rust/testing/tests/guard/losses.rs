@@ -270,8 +270,8 @@ fn a_heading_that_is_lost_is_noticed() {
             replace(changed, "crates.txt", &line, &lines);
         });
     }
-    watch.notices("parties where walk", |changed| {
-        for (old, new) in [("walk", "one"), ("parties", "walk"), ("one", "parties")] {
+    watch.notices("sharing where walk", |changed| {
+        for (old, new) in [("walk", "one"), ("sharing", "walk"), ("one", "sharing")] {
             let [old, new] = [old, new].map(|name| format!("\n## {name}\n"));
             replace(changed, promises::PAGE, &old, &new);
         }
