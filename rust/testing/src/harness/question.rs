@@ -1,7 +1,5 @@
 //! The questions that are put to both sides, and who answers them.
 
-use std::fmt;
-
 use crate::fast::{self, Fields};
 use crate::reference::Kind;
 use crate::{library, reference, Balance, Entry, Heading, Refusal};
@@ -75,12 +73,6 @@ pub type Given = Result<Answer, Refusal>;
 pub struct Side {
     pub name: &'static str,
     pub ask: fn(Call, &[u8], &mut [u8]) -> Given,
-}
-
-impl fmt::Debug for Side {
-    fn fmt(&self, out: &mut fmt::Formatter<'_>) -> fmt::Result {
-        out.write_str(self.name)
-    }
 }
 
 /// A side that has every call, under the same names.

@@ -35,7 +35,7 @@ pub struct Wanted<'w> {
 
 pub struct Run {
     pub random: Random,
-    pub units: Units,
+    pub(super) units: Units,
     seed: u64,
     tested: Side,
     family: &'static str,
@@ -135,9 +135,9 @@ impl Run {
     fn agree(&mut self, call: Call, bytes: &[u8], tested: &Given, reference: &Given) {
         assert!(
             tested == reference,
-            "{}: {call:?}: {:?} {tested:?}, reference {reference:?}, {}",
+            "{}: {call:?}: {} {tested:?}, reference {reference:?}, {}",
             self.place(),
-            self.tested,
+            self.tested.name,
             shown(bytes)
         );
         let number = reference.as_ref().map_or_else(|no| no.number, |_| 0);
