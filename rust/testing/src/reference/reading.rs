@@ -33,7 +33,7 @@ pub fn line(bytes: &[u8], index: u64) -> Result<Entry, Refusal> {
     Ok(statement.lines[index].entry())
 }
 
-/// Every line as [`line`] has it, in their order.
+/// Every line as [`line()`] has it, in their order.
 pub fn lines(bytes: &[u8]) -> Result<Vec<Entry>, Refusal> {
     Ok(read(bytes)?.lines.iter().map(Line::entry).collect())
 }
