@@ -2,7 +2,7 @@
 use Prim.Native.Nat.{ℕ, zero, suc, _+_, _*_, _<_}
 use mathlib.Core.Path.{_≡_, refl, sym, ap, ap₂, _∙_}
 use mathlib.Core.Bool.{Bool, true, false, cond}
-use mathlib.Core.List.{List, [], _∷_}
+use mathlib.Core.List.{[], List, _∷_}
 use native.Mathlib.Omega.{arith}
 use borrow.Author.Tests.{eqb-false}
 use lib.Dec.{eqb}
@@ -27,13 +27,16 @@ use Rattle.sharing.specs.declared.shares.Part.{Part}
 use Rattle.sharing.proofs.Sums.{sum-same, sum-plus, sum-none}
 use Rattle.sharing.proofs.Everyone.{each-once-unit, part-everyone}
 use Rattle.settlement.specs.Settle.{linesOf}
-use Rattle.balance.specs.Pools.{Pool, recovers, constraintPool, benefiting, contractPool, inPool}
+use Rattle.balance.specs.Pools.{Pool, constraintPool, contractPool, inPool}
+use Rattle.recovery.specs.Recovers.{recovers, benefiting}
 use Rattle.balance.specs.Balance.{sumZ, accountsOf, poolLines, lineCount, lineSum, balanceIn}
-use Rattle.balance.specs.Inner.Shapes.{belongs, unitRows, unitCredit, unitCharge, consumedPart, sentPart, regionPaid, contingencyShape, regulationShape, contractShape}
-use Rattle.balance.specs.declared.kinds.Kind.{Kind}
-use Rattle.balance.specs.declared.kinds.Kind.the-variants.{Contingency}
+use Rattle.balance.specs.Inner.Shapes.{belongs, contingencyShape, regulationShape, contractShape}
+use Rattle.recovery.specs.Inner.Shapes.{unitRows, unitCredit, unitCharge, consumedPart, sentPart, regionPaid}
+use Rattle.recovery.specs.declared.kinds.Kind.{Kind}
+use Rattle.recovery.specs.declared.kinds.Kind.the-variants.{Contingency}
 use Rattle.balance.proofs.Kept.{Kept}
-use Rattle.balance.proofs.Shareables.{cost-shareable, credit-shareable, charge-shareable, paid-by, consumed-shareable, sent-shareable}
+use Rattle.balance.proofs.Shareables.{cost-shareable, credit-shareable, charge-shareable, paid-by}
+use Rattle.recovery.proofs.Sharing.{consumed-shareable, sent-shareable}
 use Rattle.balance.proofs.PoolLines.{ownUnits, regionShare, contingency-lines, regulation-lines, contract-lines}
 
 -- ---- sums over a list

@@ -20,13 +20,14 @@ use Rattle.accounts.specs.Inner.Energies.{energiesOf}
 use Rattle.balance.specs.Pools.{constraintPool, contractPool, poolsIn}
 use Rattle.balance.specs.Balance.{balanceIn, answerTo, balancesIn, balanceIf, balanceOf}
 use Rattle.balance.specs.Inner.Places.{PlaceIs}
-use Rattle.balance.specs.Inner.Rests.{OfConstraint, PaidBy, Counted}
+use Rattle.balance.specs.Inner.Rests.{OfConstraint, Counted}
+use Rattle.recovery.specs.Inner.Rests.{PaidBy}
 use Rattle.balance.specs.Inner.Shapes.{belongs, contingencyShape, regulationShape, contractShape}
 use Rattle.balance.specs.declared.Balance.{Balance}
 use Rattle.balance.specs.declared.Balanced.{Balanced}
 use Rattle.balance.specs.declared.Balanced.the-variants as balanced
-use Rattle.balance.specs.declared.kinds.Kind.{Kind}
-use Rattle.balance.specs.declared.kinds.Kind.the-variants.{Contingency, Fpp, Used, Unused, Payment}
+use Rattle.recovery.specs.declared.kinds.Kind.{Kind}
+use Rattle.recovery.specs.declared.kinds.Kind.the-variants.{Contingency, Fpp, Used, Unused, Payment}
 use Rattle.balance.specs.declared.places.Place.{Place}
 use Rattle.balance.specs.declared.places.Place.the-variants as place
 use Rattle.balance.proofs.Shareables.{paid-by}

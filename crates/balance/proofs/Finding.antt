@@ -1,8 +1,8 @@
 -- The pool of a number, found by a walk over the constraints. Assumes nothing.
 use Prim.Native.Nat.{ℕ, zero, suc, _+_, _-_, _≤_, _<_}
-use mathlib.Core.Path.{_≡_, refl, sym, ap, _∙_}
-use mathlib.Core.Bool.{Bool, true, false, cond, _&&_, not}
-use mathlib.Core.List.{List, [], _∷_, _++_, append-assoc, append-nil}
+use mathlib.Core.Path.{_≡_, refl, ap, _∙_}
+use mathlib.Core.Bool.{Bool, true, false, cond, _&&_}
+use mathlib.Core.List.{[], List, _∷_, _++_, append-assoc, append-nil}
 use mathlib.Core.Logic.{⊎-elim}
 use native.Mathlib.Omega.{arith}
 use native.Mathlib.Nat.{add-zero, eq-or-lt-of-le, le-of-suc-le-suc, not-suc-le-zero}
@@ -18,8 +18,8 @@ use Rattle.accounts.proofs.Lists.{concat-append}
 use Rattle.balance.specs.Pools.{Pool, past, found, constraintPool, constraintPools, contractPool, poolAt}
 use Rattle.balance.specs.Inner.Places.{KindIs, poolsOver, PlaceIs}
 use Rattle.balance.specs.Inner.Shapes.{belongs}
-use Rattle.balance.specs.declared.kinds.Kind.{Kind}
-use Rattle.balance.specs.declared.kinds.Kind.the-variants.{Contingency, Fpp, Used, Unused}
+use Rattle.recovery.specs.declared.kinds.Kind.{Kind}
+use Rattle.recovery.specs.declared.kinds.Kind.the-variants.{Contingency, Fpp, Used, Unused}
 use Rattle.balance.specs.declared.places.Place.the-variants as place
 
 -- ---- a constraint's own pools

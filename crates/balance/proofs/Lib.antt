@@ -1,16 +1,9 @@
-pub mod Energy
 pub mod Shareables
-pub mod Payments
 pub mod Own
 pub mod Kept
 pub mod PoolLines
 pub mod Balances
 pub mod Accounts
-pub mod Recovered
-pub mod Found
-pub mod Closeness
-pub mod Closes
 pub mod Finding
-pub mod UnitTurns
 pub mod Resting
 pub mod Ends

@@ -20,8 +20,8 @@ use Rattle.accounts.specs.Account.{rowsOfAccount, ownBy, ownEnergy}
 use Rattle.accounts.proofs.Lists.{total-rows}
 use Rattle.sharing.specs.Inner.Shares.{ownInPart}
 use Rattle.sharing.specs.declared.shares.Part.{Part}
-use Rattle.balance.specs.Inner.Shapes.{partOf}
-use Rattle.balance.proofs.Energy.{choices, Counted, constraint-energy, region-energy}
+use Rattle.recovery.specs.Inner.Shapes.{partOf}
+use Rattle.recovery.proofs.Energy.{choices, Counted, constraint-energy, region-energy}
 
 -- the energy of the account's rows in region g
 unfoldable pub ownTotalBy : Book → ℕ → Basis → ℕ → ℕ

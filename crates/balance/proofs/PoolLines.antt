@@ -36,9 +36,10 @@ use Rattle.lines.specs.Inner.Walks.{ownLines, unitLinesAt, conLines, conLinesAt
 use Rattle.settlement.proofs.Link.{lines-link}
 use Rattle.walk.proofs.Order.{rises-once}
 use Rattle.balance.specs.Pools.{Pool, constraintPool, contractPool, hasPart, inPool}
-use Rattle.balance.specs.Inner.Shapes.{belongs, aboveBy, belowBy, poolBy, creditBy, chargeBy, partOf, consumedPart, sentPart}
-use Rattle.balance.specs.declared.kinds.Kind.{Kind}
-use Rattle.balance.specs.declared.kinds.Kind.the-variants.{Contingency, Fpp, Used, Unused, Payment}
+use Rattle.balance.specs.Inner.Shapes.{belongs}
+use Rattle.recovery.specs.Inner.Shapes.{aboveBy, belowBy, poolBy, creditBy, chargeBy, partOf, consumedPart, sentPart}
+use Rattle.recovery.specs.declared.kinds.Kind.{Kind}
+use Rattle.recovery.specs.declared.kinds.Kind.the-variants.{Contingency, Fpp, Used, Unused, Payment}
 use Rattle.balance.proofs.Own.{ownOf, own-entry, own-constraint, own-region}
 use Rattle.balance.proofs.Kept.{Kept, kept-none, kept-in, kept-out, kept-append, kept-before, kept-behind, kept-either, kept-unless, kept-both, kept-joined, kept-nothing, kept-only}
 

@@ -1,7 +1,7 @@
 -- The balance of a pool. 01, Balance: "It answers the amount to recover (0 for FPP), how many lines all accounts (each that 11 lets pass) have in
 -- that pool, and their sum."
 use Prim.Native.Nat.{ℕ}
-use mathlib.Core.List.{List, [], _∷_}
+use mathlib.Core.List.{[], List, _∷_}
 use lib.IntN.{ℤ, pos, _+ℤ_}
 use lib.ListN.{length}
 use Rattle.sections.specs.declared.Verdict.{Verdict}

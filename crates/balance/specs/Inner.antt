@@ -1,5 +1,4 @@
 -- What contracts of inner functions and of functions between the crates speak of, and no promise to a caller outside.
 pub mod Shapes
 pub mod Places
-pub mod Units
 pub mod Rests

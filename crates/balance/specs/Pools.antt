@@ -1,19 +1,17 @@
 -- The pools of a book, in book order, and the lines of each. 01, Balance: "pools are numbered from 0 in book order: one for a mode 0 constraint,
 -- three for mode 1 (FPP, used, unused), one for mode 2, one for a contract."
 use Prim.Native.Nat.{ℕ, zero, suc}
-use mathlib.Core.List.{List, [], _∷_, _++_}
+use mathlib.Core.List.{[], List, _∷_, _++_}
 use mathlib.Core.Bool.{Bool, cond, _&&_, _||_}
 use lib.Dec.{eqb}
-use Rattle.sections.specs.Total.{total}
-use Rattle.rules.specs.Rules.{factorOf}
 use Rattle.records.specs.declared.rows.Constraint.{Constraint}
 use Rattle.records.specs.declared.rows.Contract.{Contract}
-use Rattle.amounts.specs.Pools.{poolsOf}
 use Rattle.accounts.specs.Rows.{concatMap}
 use Rattle.accounts.specs.Account.{Public}
 use Rattle.statement.specs.declared.Line.{Line}
-use Rattle.balance.specs.declared.kinds.Kind.{Kind}
-use Rattle.balance.specs.declared.kinds.Kind.the-variants.{Contingency, Fpp, Used, Unused, Payment}
+use Rattle.recovery.specs.Recovers.{recovers, benefiting}
+use Rattle.recovery.specs.declared.kinds.Kind.{Kind}
+use Rattle.recovery.specs.declared.kinds.Kind.the-variants.{Contingency, Fpp, Used, Unused, Payment}
 
 -- a pool: the record that it is of, which of its lines, the amount to recover, and how many amounts are rounded before its lines are
 pub record Pool : Type 0 where
@@ -23,14 +21,6 @@ pub record Pool : Type 0 where
   pub stages : ℕ
 
 -- ---- a constraint's pools
-
--- "the amount to recover (0 for FPP)"
-unfoldable pub recovers : Constraint → Kind → ℕ
-recovers r Contingency = r .cost
-recovers r Fpp = 0
-recovers r Used = poolsOf r .used
-recovers r Unused = poolsOf r .unused
-recovers r Payment = 0
 
 -- "one half more for a regulation or FPP pool": its residual pool is rounded before it is shared
 unfoldable pub stagesOf : Kind → ℕ
@@ -50,10 +40,6 @@ constraintPools r =
     (cond (eqb (r .mode) 1) (constraintPool r Fpp ∷ constraintPool r Used ∷ constraintPool r Unused ∷ []) (constraintPool r Unused ∷ []))
 
 -- ---- a contract's pool
-
--- "one half more per benefiting region": each region's part of the payment is rounded before it is shared
-unfoldable pub benefiting : Contract → ℕ
-benefiting k = total (λ g. cond (eqb (factorOf (k .factors) g) 0) 0 1) 5
 
 unfoldable pub contractPool : Contract → Pool
 contractPool k = record { id = k .id; kind = Payment; amount = k .payment; stages = benefiting k }

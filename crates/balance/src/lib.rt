@@ -1,7 +1,5 @@
 // The balance of a pool: what it has to recover, how many lines all accounts have in it, and what they sum to.
-mod kinds; // kinds.rt: which lines of a record a pool has, and what it rests on
 mod places; // places.rt: where the pool of a number stands
-mod units; // units.rt: what unit rows are credited and charged
 mod pools; // pools.rt: the balance of each kind of pool
 
 ghost use mathlib.Core.Path.{_≡_};
@@ -13,13 +11,13 @@ ghost use Rattle.balance.specs.Pools.{constraintPool, contractPool};
 ghost use Rattle.balance.specs.Balance.{balanceIn, balancesIn, balanceOf};
 ghost use Rattle.balance.specs.Inner.Shapes.{belongs};
 ghost use mathlib.Core.Bool.{true};
-use crate::kinds::Kind;
 use crate::places::Place;
 use accounts::energies;
 use book::header;
 use book::header::Header;
 use market::Mode;
 use records::rows;
+use recovery::kinds::Kind;
 use sections::Verdict;
 
 // A pool's balance. Money is in ten-thousandths of a dollar.

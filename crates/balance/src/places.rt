@@ -5,10 +5,10 @@ ghost use lib.ListN.{length};
 ghost use Rattle.records.specs.Rows.{constraintRow};
 ghost use Rattle.balance.specs.Pools.{constraintPools};
 ghost use Rattle.balance.specs.Inner.Places.{KindIs, PlaceIs};
-use crate::kinds::Kind;
 use market::Mode;
 use records::rows;
 use records::rows::Constraint;
+use recovery::kinds::Kind;
 
 // A pool of a constraint, a contract's pool, or a number past the end.
 pub(crate) enum Place {

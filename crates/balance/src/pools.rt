@@ -1,37 +1,28 @@
 // The balance of each kind of pool, of a book that the checks have accepted.
 ghost use mathlib.Core.Path.{_≡_};
 ghost use Prim.Native.Nat.{_+_, _*_, _≤_, _<_};
-ghost use mathlib.Core.Bool.{cond};
-ghost use lib.Dec.{eqb};
-ghost use lib.ListN.{length};
 ghost use Rattle.ground.specs.Units.{moneyLimit};
-ghost use Rattle.sections.specs.Total.{total};
-ghost use Rattle.records.specs.Rows.{entryRow, energyRow};
 ghost use Rattle.totals.specs.Divisors.{overRegions};
 ghost use Rattle.totals.specs.Inner.Energies.{energiesIn, PartLaid, Sound};
 ghost use Rattle.book.specs.Book.{bookIn};
 ghost use Rattle.book.specs.Inner.Facts.{Laid};
 ghost use Rattle.book.specs.Inner.Accepted.{Promise};
-ghost use Rattle.sharing.specs.Inner.Shares.{partSum, Shareable};
-ghost use Rattle.balance.specs.Inner.Shapes.{regionPaid, contingencyShape, regulationShape, contractShape};
-ghost use Rattle.balance.specs.Inner.Rests.{OfConstraint, PartIs, PaidBy, Counted, PaidIs, ListsAre, Payable, AllPayable, rowPays};
+ghost use Rattle.balance.specs.Inner.Shapes.{contingencyShape, regulationShape, contractShape};
+ghost use Rattle.balance.specs.Inner.Rests.{OfConstraint, Counted};
+ghost use Rattle.recovery.specs.Inner.Rests.{PaidBy};
 use crate::Balance;
-use crate::kinds;
-use crate::kinds::Kind;
-use crate::units;
 use accounts::energies;
-use amounts::pools;
 use amounts::shares;
 use book::header::Header;
-use market::Basis;
-use market::Region;
-use market::Service;
 use numbers::sign;
 use records::rows;
 use records::rows::Constraint;
 use records::rows::Contract;
-use records::rows::EnergyRow;
-use sharing::shares::Part;
+use recovery::contracts;
+use recovery::kinds;
+use recovery::kinds::Kind;
+use recovery::regions;
+use recovery::units;
 use totals::divisors;
 use totals::entries::EnergyPart;
 
@@ -51,37 +42,6 @@ pub(crate) fn accounts(book: &[u8], h: Header) -> usize
     )
 }
 
-// What a part of a pool comes to over all accounts.
-fn shared(bytes: &[u8], e: EnergyPart, p: Part) -> u64
-    requires { ⌜ PartLaid (now bytes) e ⌝ }
-    requires { ⌜ Sound (energiesIn (now bytes) e) ⌝ }
-    requires { ⌜ Shareable p (energiesIn (now bytes) e .row) (e .rows) ⌝ }
-    ensures { λ x. ⌜ (x ≡ partSum p (energiesIn (now (bytes .entry)) e .row) (e .rows)) × (x ≤ 51_200_000_000_000) ⌝ }
-{
-    let from = e.from;
-    sharing::shares::part_sum(&bytes[from..], e.rows, p)
-}
-
-// What an amount that is shared over a constraint's regions comes to over all accounts.
-fn over_regions(bytes: &[u8], e: EnergyPart, r: Constraint, whole: u64, amount: u64) -> u64
-    requires { ⌜ PartLaid (now bytes) e ⌝ }
-    requires { ⌜ Sound (energiesIn (now bytes) e) ⌝ }
-    requires { ⌜ (whole ≡ overRegions (energiesIn (now bytes) e .entry) r) × ((0 < whole) × (amount ≤ moneyLimit)) ⌝ }
-    ensures { λ x. ⌜ PartIs (energiesIn (now (bytes .entry)) e) r amount x ⌝ }
-{
-    let basis = Basis::of(Service::of(r.service));
-    shared(
-        bytes,
-        e,
-        Part {
-            amount,
-            whole,
-            mask: r.mask,
-            basis,
-        },
-    )
-}
-
 // A contingency pool: a line of each account.
 pub(crate) fn contingency(bytes: &[u8], e: EnergyPart, r: Constraint, count: usize) -> Balance
     requires { ⌜ PartLaid (now bytes) e ⌝ }
@@ -90,7 +50,7 @@ pub(crate) fn contingency(bytes: &[u8], e: EnergyPart, r: Constraint, count: usi
     ensures { λ x. ⌜ x ≡ contingencyShape (energiesIn (now (bytes .entry)) e) count r ⌝ }
 {
     let whole = divisors::divisor(bytes, r);
-    let charge = over_regions(bytes, e, r, whole, r.cost);
+    let charge = regions::over_regions(bytes, e, r, whole, r.cost);
     Balance {
         amount: sign::signed(false, r.cost),
         lines: count,
@@ -112,144 +72,12 @@ pub(crate) fn regulation(book: &[u8], h: Header, r: Constraint, kind: Kind, coun
     let bytes = &book[24..];
     let e = energies::part_of(h);
     let whole = divisors::divisor(bytes, r);
-    let credit = over_regions(bytes, e, r, whole, x.credit);
-    let charge = over_regions(bytes, e, r, whole, x.charge);
+    let credit = regions::over_regions(bytes, e, r, whole, x.credit);
+    let charge = regions::over_regions(bytes, e, r, whole, x.charge);
     Balance {
         amount: sign::signed(false, x.amount),
         lines: u.rows + count,
         sum: shares::net(u.credit + credit, u.charge + charge),
-    }
-}
-
-// The two halves of a contract's payment in region g, and the region's totals, each in its list.
-fn fill(
-    bytes: &[u8],
-    k: Contract,
-    g: usize,
-    consumed: &mut [u64; 5],
-    sent: &mut [u64; 5],
-    ace: &mut [u64; 5],
-    asoe: &mut [u64; 5],
-)
-    requires { ⌜ (60 ≤ length (now bytes)) × PaidBy (entryRow (now bytes)) k ⌝ }
-    requires { ⌜ (g < 5) × ListsAre (entryRow (now bytes)) k g (now consumed) (now sent) (now ace) (now asoe) ⌝ }
-    ensures { λ _. ⌜ ListsAre (entryRow (now (bytes .entry))) k (g + 1) (now (consumed .exit)) (now (sent .exit)) (now (ace .exit)) (now (asoe .exit)) ⌝ }
-{
-    let factors = k.factors;
-    let x = pools::halves_of(k.payment, factors[g]);
-    let e = rows::entry_row(bytes, g);
-    consumed[g] = x.consumed;
-    sent[g] = x.sent;
-    ace[g] = e.ace as u64;
-    asoe[g] = e.asoe as u64;
-}
-
-// What the account of an energy row pays for its region, where the contract benefits it. An account has one row for a region, so that its two
-// lines there are this row's two shares.
-fn row_pays(
-    factors: &[u32; 5],
-    consumed: &[u64; 5],
-    sent: &[u64; 5],
-    ace: &[u64; 5],
-    asoe: &[u64; 5],
-    r: EnergyRow,
-) -> u64
-    requires { ⌜ Payable (now factors) (now consumed) (now sent) (now ace) (now asoe) r ⌝ }
-    ensures { λ x. ⌜ x ≡ rowPays (now (factors .entry)) (now (consumed .entry)) (now (sent .entry)) (now (ace .entry)) (now (asoe .entry)) r ⌝ }
-{
-    let g = r.region as usize;
-    if factors[g] == 0 {
-        return 0;
-    }
-    shares::share(consumed[g], r.ace as u64, ace[g])
-        + shares::share(sent[g], r.asoe as u64, asoe[g])
-}
-
-// What all accounts pay, in one pass over the energy rows.
-fn pays(
-    energy: &[u8],
-    n: usize,
-    factors: &[u32; 5],
-    consumed: &[u64; 5],
-    sent: &[u64; 5],
-    ace: &[u64; 5],
-    asoe: &[u64; 5],
-) -> u64
-    requires { ⌜ n * 24 ≤ length (now energy) ⌝ }
-    requires { ⌜ AllPayable (now factors) (now consumed) (now sent) (now ace) (now asoe) (energyRow (now energy)) n ⌝ }
-    ensures { λ x. ⌜ (x ≡ total (λ i. rowPays (now (factors .entry)) (now (consumed .entry)) (now (sent .entry)) (now (ace .entry)) (now (asoe .entry)) (energyRow (now (energy .entry)) i)) n) × (x ≤ 102_400_000_000_000) ⌝ }
-{
-    let mut sum: u64 = 0;
-    let mut i = 0;
-    while i < n {
-        sum += row_pays(
-            factors,
-            consumed,
-            sent,
-            ace,
-            asoe,
-            rows::energy_row(energy, i),
-        );
-        i += 1;
-    }
-    sum
-}
-
-// What all accounts pay in the regions that a contract benefits.
-fn charges(bytes: &[u8], e: EnergyPart, k: Contract) -> u64
-    requires { ⌜ PartLaid (now bytes) e ⌝ }
-    requires { ⌜ Sound (energiesIn (now bytes) e) ⌝ }
-    requires { ⌜ PaidBy (energiesIn (now bytes) e .entry) k ⌝ }
-    ensures { λ x. ⌜ (x ≡ total (regionPaid (energiesIn (now (bytes .entry)) e) k) 5) × (x ≤ 102_400_000_000_000) ⌝ }
-{
-    let mut consumed = [0u64; 5];
-    let mut sent = [0u64; 5];
-    let mut ace = [0u64; 5];
-    let mut asoe = [0u64; 5];
-    let mut g = 0;
-    while g < Region::COUNT {
-        fill(bytes, k, g, &mut consumed, &mut sent, &mut ace, &mut asoe);
-        g += 1;
-    }
-    let factors = k.factors;
-    let from = e.from;
-    pays(
-        &bytes[from..],
-        e.rows,
-        &factors,
-        &consumed,
-        &sent,
-        &ace,
-        &asoe,
-    )
-}
-
-// How many regions a contract benefits, and what all accounts pay in them.
-pub(crate) struct Paid {
-    pub regions: usize,
-    pub charge: u64,
-}
-
-// 1 for a region that a contract benefits, else 0.
-fn benefits(factor: u32) -> usize
-    ensures { λ x. ⌜ (x ≡ cond (eqb factor 0) 0 1) × (x ≤ 1) ⌝ }
-{
-    if factor == 0 {
-        return 0;
-    }
-    1
-}
-
-fn payments(bytes: &[u8], e: EnergyPart, k: Contract) -> Paid
-    requires { ⌜ PartLaid (now bytes) e ⌝ }
-    requires { ⌜ Sound (energiesIn (now bytes) e) ⌝ }
-    requires { ⌜ PaidBy (energiesIn (now bytes) e .entry) k ⌝ }
-    ensures { λ x. ⌜ PaidIs (energiesIn (now (bytes .entry)) e) k x ⌝ }
-{
-    let f = k.factors;
-    Paid {
-        regions: benefits(f[0]) + benefits(f[1]) + benefits(f[2]) + benefits(f[3]) + benefits(f[4]),
-        charge: charges(bytes, e, k),
     }
 }
 
@@ -260,7 +88,7 @@ pub(crate) fn contract(bytes: &[u8], e: EnergyPart, k: Contract, count: usize) -
     requires { ⌜ PaidBy (energiesIn (now bytes) e .entry) k × (count ≤ 1624) ⌝ }
     ensures { λ x. ⌜ x ≡ contractShape (energiesIn (now (bytes .entry)) e) count k ⌝ }
 {
-    let x = payments(bytes, e, k);
+    let x = contracts::payments(bytes, e, k);
     Balance {
         amount: sign::signed(false, k.payment),
         lines: x.regions * (2 * count),

@@ -38,7 +38,7 @@ use Rattle.settlement.specs.Settle.{headingOf, statementOf, outcome}
 use Rattle.balance.specs.Pools.{Pool, Found, past, found, poolsIn, poolAt, inPool}
 use Rattle.balance.specs.Balance.{sumZ, accountsOf, poolLines, lineCount, lineSum, balanceIn, answerTo, balancesIn, balanceIf, balanceOf}
 use Rattle.balance.proofs.Accounts.{each-account-stands-once}
-use Rattle.balance.proofs.Closes.{every-pool-closes}
+use Rattle.closing.proofs.Closes.{every-pool-closes}
 use Rattle.trips.specs.ReadBack.{ReadBack}
 use Rattle.trips.proofs.Call.{passed}
 use Rattle.trips.proofs.Trip.{written-and-read}

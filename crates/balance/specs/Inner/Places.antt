@@ -2,13 +2,13 @@
 use Prim.Native.Nat.{ℕ, _<_}
 use mathlib.Core.Path.{_≡_}
 use mathlib.Core.Bool.{true}
-use mathlib.Core.List.{List, [], _∷_, _++_}
+use mathlib.Core.List.{[], List, _∷_, _++_}
 use Rattle.records.specs.declared.rows.Constraint.{Constraint}
 use Rattle.records.specs.declared.rows.Contract.{Contract}
 use Rattle.accounts.specs.Rows.{rowsOf, concatMap}
 use Rattle.balance.specs.Pools.{Pool, past, found, constraintPool, constraintPools, contractPool, poolAt}
 use Rattle.balance.specs.Inner.Shapes.{belongs}
-use Rattle.balance.specs.declared.kinds.Kind.{Kind}
+use Rattle.recovery.specs.declared.kinds.Kind.{Kind}
 use Rattle.balance.specs.declared.places.Place.{Place}
 use Rattle.balance.specs.declared.places.Place.the-variants as place
 

@@ -1,6 +1,5 @@
 -- `balance::places::kind_at` meets its contract. The mode and the place decide. Assumes nothing.
 use Rattle.balance.proofs.Finding.{is-contingency, is-fpp, is-used, is-unused}
-use Rattle.balance.proofs.Finding.{is-contingency, is-fpp, is-used, is-unused}
 use Rattle.balance.proofs.places.kind_at.Statement.{statement}
 use Rattle.balance.proofs.places.kind_at.Tie as tie
 

@@ -4,7 +4,6 @@ use native.Mathlib.Omega.{arith}
 use borrow.Author.Needs.{needs}
 use Rattle.balance.proofs.Finding.{Looking, look-start, look-more, found-kind, found-contract, found-past}
 use Rattle.records.specs.Rows.{constraintRow}
-use Rattle.balance.proofs.Finding.{Looking, look-start, look-more, found-kind, found-contract, found-past}
 use Rattle.balance.proofs.places.place_of.Statement.{statement}
 use Rattle.balance.proofs.places.place_of.Tie as tie
 

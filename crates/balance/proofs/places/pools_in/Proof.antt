@@ -1,6 +1,5 @@
 -- `balance::places::pools_in` meets its contract. Only mode 1 has three. Assumes nothing.
 use Rattle.balance.proofs.Finding.{three-pools, one-pool}
-use Rattle.balance.proofs.Finding.{three-pools, one-pool}
 use Rattle.balance.proofs.places.pools_in.Statement.{statement}
 use Rattle.balance.proofs.places.pools_in.Tie as tie
 

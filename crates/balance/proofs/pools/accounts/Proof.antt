@@ -2,9 +2,6 @@
 use borrow.Author.Needs.{needs}
 use Rattle.book.proofs.Room.{energies-room, units-room}
 use Rattle.balance.proofs.Resting.{sorted-at, counted-is}
-use borrow.Author.Needs.{needs}
-use Rattle.book.proofs.Room.{energies-room, units-room}
-use Rattle.balance.proofs.Resting.{sorted-at, counted-is}
 use Rattle.balance.proofs.pools.accounts.Statement.{statement}
 use Rattle.balance.proofs.pools.accounts.Tie as tie
 

@@ -1,7 +1,7 @@
 -- `balance::pools::contingency` meets its contract. The cost is shared over all accounts. Assumes nothing.
 use mathlib.Core.Path.{_∙_}
 use native.Mathlib.Omega.{arith}
-use borrow.Author.Needs.{needs, sfits-of}
+use borrow.Author.Needs.{sfits-of}
 use mir.Facts.{toZ-ofZ}
 use Rattle.balance.proofs.Resting.{contingency-is}
 use Rattle.balance.proofs.pools.contingency.Statement.{statement}

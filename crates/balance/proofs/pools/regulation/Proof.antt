@@ -6,7 +6,8 @@ use mir.Facts.{toZ-ofZ}
 use Rattle.book.proofs.Room.{units-room}
 use Rattle.book.specs.Book.{bookIn}
 use Rattle.accounts.proofs.Parts.{part-laid, part-sound}
-use Rattle.balance.proofs.Resting.{constraint-rule, constraint-divides, part-in, recovery-small, regulation-is}
+use Rattle.balance.proofs.Resting.{constraint-rule, constraint-divides, part-in, regulation-is}
+use Rattle.recovery.proofs.Sharing.{recovery-small}
 use Rattle.balance.proofs.pools.regulation.Statement.{statement}
 use Rattle.balance.proofs.pools.regulation.Tie as tie
 

@@ -1,0 +1,5 @@
+pub mod Energy
+pub mod Sharing
+pub mod Payments
+pub mod UnitTurns
+pub mod Recovered
