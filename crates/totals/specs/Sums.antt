@@ -5,6 +5,7 @@ use mathlib.Core.List.{List, [], _∷_}
 use lib.Dec.{eqb}
 use Rattle.ground.specs.Every.{allOf}
 use Rattle.sections.specs.Total.{totalOf}
+use Rattle.market.specs.Kinds.{picked}
 use Rattle.market.specs.declared.Basis.{Basis}
 use Rattle.market.specs.declared.Basis.the-variants.{Ace, Asoe, Residual}
 use Rattle.records.specs.declared.rows.Entry.{Entry}
@@ -14,15 +15,11 @@ use Rattle.records.specs.declared.rows.EnergyRow.{EnergyRow}
 
 -- a region entry's: "total ACE, total ASOE, residual total"
 abbrev pub entryBy : Basis → Entry → ℕ
-entryBy Ace e = e .ace
-entryBy Asoe e = e .asoe
-entryBy Residual e = e .residual
+entryBy b e = picked b (e .ace) (e .asoe) (e .residual)
 
 -- an energy row's: "|residual ACE| + |residual ASOE|" is its residual energy
 abbrev pub rowBy : Basis → EnergyRow → ℕ
-rowBy Ace r = r .ace
-rowBy Asoe r = r .asoe
-rowBy Residual r = r .race + r .rasoe
+rowBy b r = picked b (r .ace) (r .asoe) (r .race + r .rasoe)
 
 -- a number of each kind, put as a region's entry is
 abbrev pub entryWith : (Basis → ℕ) → Entry

@@ -26,11 +26,7 @@ fn energy_in(t: Totals, basis: Basis, g: usize) -> u64
     let ace = t.ace;
     let asoe = t.asoe;
     let residual = t.residual;
-    match basis {
-        Basis::Ace => ace[g],
-        Basis::Asoe => asoe[g],
-        Basis::Residual => residual[g],
-    }
+    basis.pick(ace[g], asoe[g], residual[g])
 }
 
 // What region g counts for over a constraint's regions.
