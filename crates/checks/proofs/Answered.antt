@@ -11,8 +11,8 @@ use Rattle.sections.specs.declared.Checked.{Checked}
 use Rattle.sections.specs.declared.Verdict.{Verdict}
 use Rattle.sections.proofs.Refusal.{earlier-last}
 use Rattle.records.specs.Rows.{entryRow, constraintRow, unitRow, energyRow, contractRow}
-use Rattle.rules.specs.Inner.Checks.{sectionVerdict}
-use Rattle.rules.specs.declared.section.Check.the-variants.{EntryFields, ConstraintFields, UnitFields, EnergyFields, ContractFields, ConstraintOrder, UnitOrder, EnergyOrder, ContractOrder}
+use Rattle.section_check.specs.Inner.Checks.{sectionVerdict}
+use Rattle.section_check.specs.declared.Check.the-variants.{EntryFields, ConstraintFields, UnitFields, EnergyFields, ContractFields, ConstraintOrder, UnitOrder, EnergyOrder, ContractOrder}
 use Rattle.factors.specs.Naming.{namedAt}
 use Rattle.factors.specs.Factors.{factorsAt}
 use Rattle.totals.specs.Sums.{entryHasSums}

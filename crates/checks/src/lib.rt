@@ -8,8 +8,8 @@ ghost use Rattle.book.specs.Inner.Facts.{Laid, Fields, Ordered, Named};
 use book::header::Header;
 use factors::naming;
 use factors::sums;
-use rules::section;
-use rules::section::Check;
+use section_check::Check;
+use section_check::section;
 use sections::Verdict;
 use totals::divisors;
 use totals::entries;
@@ -19,16 +19,16 @@ fn fields(book: &[u8], h: Header) -> Verdict
     requires { ⌜ Laid (now book) h ⌝ }
     ensures { λ v. ⌜ v ≡ check5 (bookIn (now (book .entry)) h) ⌝ }
 {
-    let regions = section::section(Check::EntryFields, book, 24, 5);
-    let constraints = section::section(Check::ConstraintFields, book, 84, h.constraints as usize);
-    let units = section::section(Check::UnitFields, book, h.units_at(), h.units as usize);
-    let energies = section::section(
+    let regions = section(Check::EntryFields, book, 24, 5);
+    let constraints = section(Check::ConstraintFields, book, 84, h.constraints as usize);
+    let units = section(Check::UnitFields, book, h.units_at(), h.units as usize);
+    let energies = section(
         Check::EnergyFields,
         book,
         h.energies_at(),
         h.energies as usize,
     );
-    let contracts = section::section(
+    let contracts = section(
         Check::ContractFields,
         book,
         h.contracts_at(),
@@ -43,15 +43,15 @@ fn order(book: &[u8], h: Header) -> Verdict
     requires { ⌜ Laid (now book) h ⌝ }
     ensures { λ v. ⌜ v ≡ check6 (bookIn (now (book .entry)) h) ⌝ }
 {
-    let constraints = section::section(Check::ConstraintOrder, book, 84, h.constraints as usize);
-    let units = section::section(Check::UnitOrder, book, h.units_at(), h.units as usize);
-    let energies = section::section(
+    let constraints = section(Check::ConstraintOrder, book, 84, h.constraints as usize);
+    let units = section(Check::UnitOrder, book, h.units_at(), h.units as usize);
+    let energies = section(
         Check::EnergyOrder,
         book,
         h.energies_at(),
         h.energies as usize,
     );
-    let contracts = section::section(
+    let contracts = section(
         Check::ContractOrder,
         book,
         h.contracts_at(),

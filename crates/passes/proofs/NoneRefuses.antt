@@ -13,19 +13,22 @@ use Rattle.sections.specs.Refusal.{atRecord, earlier, firstOf}
 use Rattle.sections.specs.declared.Checked.the-variants.{Good}
 use Rattle.sections.specs.declared.Verdict.{Verdict}
 use Rattle.sections.specs.declared.Verdict.the-variants.{Accepted, Refused}
+use Rattle.sections.proofs.Cases.{no-yes}
 use Rattle.sections.proofs.First.{first-each, first-good}
 use Rattle.sections.proofs.Refusal.{record-held, first-held, earlier-last}
 use Rattle.records.specs.Rows.{entryRow, constraintRow, unitRow, energyRow}
 use Rattle.rules.specs.Rules.{entryOk, constraintOk, unitOk, energyOk, contractOk, constraintBelow, unitBelow, energyBelow, contractBelow}
-use Rattle.rules.specs.Inner.Checks.{sectionVerdict}
 use Rattle.rules.specs.Inner.Facts.{EntryRule, ConstraintRule}
-use Rattle.rules.specs.declared.section.Check.the-variants.{EntryFields, ConstraintFields, ContractFields, ConstraintOrder, ContractOrder}
 use Rattle.rules.proofs.Rule.{entry-rules, constraint-rules, constraints-rise}
+use Rattle.section_check.specs.Inner.Checks.{sectionVerdict}
+use Rattle.section_check.specs.declared.Check.the-variants.{EntryFields, ConstraintFields, ContractFields, ConstraintOrder, ContractOrder}
 use Rattle.factors.specs.Naming.{idOf, namedAt}
 use Rattle.factors.specs.Factors.{factorsAt}
 use Rattle.totals.specs.Sums.{entryHasSums}
-use Rattle.quick.specs.Inner.Holds.{unitsHold, energiesHold}
-use Rattle.quick.proofs.Said.{no-yes, UnitsHold, units-say, units-said, EnergiesHold, energies-say, energies-said}
+use Rattle.unit_pass.specs.Inner.Holds.{unitsHold}
+use Rattle.unit_pass.proofs.Said.{UnitsHold, units-say, units-said}
+use Rattle.energy_pass.specs.Inner.Holds.{energiesHold}
+use Rattle.energy_pass.proofs.Said.{EnergiesHold, energies-say, energies-said}
 use Rattle.book.specs.declared.header.Header.{Header}
 use Rattle.book.specs.Header.{unitsFrom, energiesFrom, contractsFrom}
 use Rattle.book.specs.Book.{Book, bookIn}

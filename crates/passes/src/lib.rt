@@ -7,10 +7,8 @@ ghost use Rattle.book.specs.Table.{recordChecks};
 ghost use Rattle.book.specs.Inner.Facts.{Laid};
 ghost use Rattle.passes.specs.Inner.Passes.{shortChecks, accepts};
 use book::header::Header;
-use quick::energies;
-use quick::units;
-use rules::section;
-use rules::section::Check;
+use section_check::Check;
+use section_check::section;
 use sections::Verdict;
 
 // 5 and 6 of the short sections: region entries, constraints, contracts.
@@ -21,11 +19,11 @@ fn short_sections(book: &[u8], h: Header) -> Verdict
     let from = h.contracts_at();
     let paid = h.contracts as usize;
     let count = h.constraints as usize;
-    let regions = section::section(Check::EntryFields, book, 24, 5);
-    let constraints = section::section(Check::ConstraintFields, book, 84, count);
-    let contracts = section::section(Check::ContractFields, book, from, paid);
-    let ids = section::section(Check::ConstraintOrder, book, 84, count);
-    let contract_ids = section::section(Check::ContractOrder, book, from, paid);
+    let regions = section(Check::EntryFields, book, 24, 5);
+    let constraints = section(Check::ConstraintFields, book, 84, count);
+    let contracts = section(Check::ContractFields, book, from, paid);
+    let ids = section(Check::ConstraintOrder, book, 84, count);
+    let contract_ids = section(Check::ContractOrder, book, from, paid);
     let tail = sections::earlier(contracts, sections::earlier(ids, contract_ids));
     sections::earlier(regions, sections::earlier(constraints, tail))
 }
@@ -40,11 +38,11 @@ pub fn none_refuses(book: &[u8], h: Header) -> bool
     }
     let from = h.units_at();
     let count = h.constraints as usize;
-    if !units::units_hold(&book[84..], count, &book[from..], h.units as usize) {
+    if !unit_pass::units_hold(&book[84..], count, &book[from..], h.units as usize) {
         return false;
     }
     let start = h.energies_at();
-    if !energies::energies_hold(&book[24..], &book[start..], h.energies as usize) {
+    if !energy_pass::energies_hold(&book[24..], &book[start..], h.energies as usize) {
         return false;
     }
     true

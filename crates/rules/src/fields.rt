@@ -11,7 +11,7 @@ use records::rows::EnergyRow;
 use records::rows::Entry;
 use records::rows::UnitRow;
 
-pub(crate) fn entry_ok(r: Entry) -> bool
+pub fn entry_ok(r: Entry) -> bool
     ensures { λ b. ⌜ b ≡ entryOk r ⌝ }
 {
     (r.ace <= 20_000_000) & (r.asoe <= 20_000_000) & (r.residual <= 20_000_000)
@@ -59,7 +59,7 @@ fn mode_fits(r: Constraint) -> bool
         | ((r.mode == Mode::DEFAULT) & regulation & bare)
 }
 
-pub(crate) fn constraint_ok(r: Constraint) -> bool
+pub fn constraint_ok(r: Constraint) -> bool
     ensures { λ b. ⌜ b ≡ constraintOk r ⌝ }
 {
     let terms = terms_ok(Mode::of(r.mode, r.price, r.rcr, r.usage));
@@ -77,7 +77,7 @@ pub(crate) fn constraint_ok(r: Constraint) -> bool
         & mode_fits(r)
 }
 
-pub(crate) fn unit_ok(r: UnitRow) -> bool
+pub fn unit_ok(r: UnitRow) -> bool
     ensures { λ b. ⌜ b ≡ unitOk r ⌝ }
 {
     (1 <= r.constraint)
@@ -88,7 +88,7 @@ pub(crate) fn unit_ok(r: UnitRow) -> bool
         & (r.dcf <= 1_000_000)
 }
 
-pub(crate) fn energy_ok(r: EnergyRow) -> bool
+pub fn energy_ok(r: EnergyRow) -> bool
     ensures { λ b. ⌜ b ≡ energyOk r ⌝ }
 {
     (1 <= r.account)
@@ -115,7 +115,7 @@ fn shares_ok(f: [u32; 5]) -> bool
     each & (sum5(f[0], f[1], f[2], f[3], f[4]) == 1_000_000)
 }
 
-pub(crate) fn contract_ok(r: Contract) -> bool
+pub fn contract_ok(r: Contract) -> bool
     ensures { λ b. ⌜ b ≡ contractOk r ⌝ }
 {
     let factors = r.factors;

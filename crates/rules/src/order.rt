@@ -7,7 +7,7 @@ ghost use Rattle.records.specs.Rows.{constraintRow, unitRow, energyRow, contrac
 ghost use Rattle.rules.specs.Rules.{constraintBelow, unitBelow, energyBelow, contractBelow};
 use records::rows;
 
-pub(crate) fn constraint_rises(s: &[u8], i: usize) -> bool
+pub fn constraint_rises(s: &[u8], i: usize) -> bool
     requires { ⌜ (i + 1) * 40 ≤ length (now s) ⌝ }
     ensures { λ t. ⌜ t ≡ risesBy constraintBelow (constraintRow (now (s .entry))) i ⌝ }
 {
@@ -19,7 +19,7 @@ pub(crate) fn constraint_rises(s: &[u8], i: usize) -> bool
     a.id < b.id
 }
 
-pub(crate) fn unit_rises(s: &[u8], i: usize) -> bool
+pub fn unit_rises(s: &[u8], i: usize) -> bool
     requires { ⌜ (i + 1) * 20 ≤ length (now s) ⌝ }
     ensures { λ t. ⌜ t ≡ risesBy unitBelow (unitRow (now (s .entry))) i ⌝ }
 {
@@ -31,7 +31,7 @@ pub(crate) fn unit_rises(s: &[u8], i: usize) -> bool
     (a.constraint < b.constraint) | ((a.constraint == b.constraint) & (a.unit < b.unit))
 }
 
-pub(crate) fn energy_rises(s: &[u8], i: usize) -> bool
+pub fn energy_rises(s: &[u8], i: usize) -> bool
     requires { ⌜ (i + 1) * 24 ≤ length (now s) ⌝ }
     ensures { λ t. ⌜ t ≡ risesBy energyBelow (energyRow (now (s .entry))) i ⌝ }
 {
@@ -43,7 +43,7 @@ pub(crate) fn energy_rises(s: &[u8], i: usize) -> bool
     (a.account < b.account) | ((a.account == b.account) & (a.region < b.region))
 }
 
-pub(crate) fn contract_rises(s: &[u8], i: usize) -> bool
+pub fn contract_rises(s: &[u8], i: usize) -> bool
     requires { ⌜ (i + 1) * 36 ≤ length (now s) ⌝ }
     ensures { λ t. ⌜ t ≡ risesBy contractBelow (contractRow (now (s .entry))) i ⌝ }
 {

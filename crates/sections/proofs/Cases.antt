@@ -1,6 +1,7 @@
--- Small facts that many proofs come to: 0 is not 1, a choice between equals, and a fact of each of the five regions. Assumes nothing.
+-- Small facts that many proofs come to: 0 is not 1, answers that are equal, a choice between equals, and a fact of each of the five regions.
+-- Assumes nothing.
 use Prim.Native.Nat.{ℕ, zero, suc, _<_}
-use mathlib.Core.Path.{_≡_, refl}
+use mathlib.Core.Path.{_≡_, refl, sym}
 use mathlib.Core.Bool.{Bool, true, false, cond}
 use native.Mathlib.Omega.{arith}
 
@@ -8,6 +9,22 @@ use native.Mathlib.Omega.{arith}
 pub zero-one : _≡_ {A = ℕ} 0 1 → ⊥
 zero-one z = omega arith
 
+-- two answers that are yes where the other is
+pub same-answer : (a b : Bool) → (a ≡ true → b ≡ true) → (b ≡ true → a ≡ true) → a ≡ b
+same-answer true b f g = sym (f refl)
+same-answer false true f g = g refl
+same-answer false false f g = refl
+
+-- a test that cannot hold
+pub never-holds : (b : Bool) → (b ≡ true → ⊥) → false ≡ b
+never-holds true f = absurd (f refl)
+never-holds false f = refl
+
+-- no is not yes
+pub no-yes : {b : Bool} → b ≡ false → b ≡ true → ⊥
+no-yes e q = zero-one cc
+
+-- a choice between equals
 pub cond-same : {A : Type 0} (t : Bool) (x : A) → cond t x x ≡ x
 cond-same true x = refl
 cond-same false x = refl

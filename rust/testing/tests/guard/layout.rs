@@ -22,7 +22,7 @@ struct Record {
     size_of: Option<&'static str>,
 }
 
-const CHECKS: &str = "crates/rules/specs/Inner/Checks.antt";
+const CHECKS: &str = "crates/section_check/specs/Inner/Checks.antt";
 const ROWS: &str = "crates/records/specs/Rows.antt";
 const READING: &str = "crates/parsing/specs/Parsing.antt";
 const BOOK: &str = "crates/book/specs/Header.antt";

@@ -837,7 +837,7 @@ fn a_field_that_stands_elsewhere_is_noticed() {
 fn a_record_of_another_size_is_noticed() {
     let repository = Repository::read();
     let watch = Watch::over(&repository, layout::unlike_the_definitions);
-    let checks = "crates/rules/specs/Inner/Checks.antt";
+    let checks = "crates/section_check/specs/Inner/Checks.antt";
     for (name, size, title) in [
         ("Entry", 12, "Region entry"),
         ("Constraint", 40, "Constraint"),

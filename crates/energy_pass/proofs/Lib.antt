@@ -1,0 +1,4 @@
+pub mod Said
+pub mod Rows
+pub mod Turns
+pub mod End

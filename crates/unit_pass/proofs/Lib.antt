@@ -1,0 +1,4 @@
+pub mod Said
+pub mod Turns
+pub mod Walk
+pub mod Ahead
