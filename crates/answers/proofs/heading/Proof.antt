@@ -1,6 +1,5 @@
 -- `answers::heading` meets its contract. The case decides. Assumes nothing.
 use Rattle.answers.specs.Answers.{headingAnswer}
-use Rattle.answers.specs.Answers.{headingAnswer}
 use borrow.Author.Needs.{needs}
 use Rattle.answers.proofs.heading.Statement.{statement}
 use Rattle.answers.proofs.heading.Tie as tie
