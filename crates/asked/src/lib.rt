@@ -7,11 +7,11 @@ ghost use Rattle.settlement.specs.Settle.{outcome};
 ghost use Rattle.demands.specs.Demand1.{CheckAnswered, PoolAnswered, HeadingAnswered, EntryAnswered, Gives, Answered, onAStatement, onRewriting};
 ghost use Rattle.demands.specs.Demand2.{NumbersAreTheGuides, StatementIsTheGuides, LinesAreTheLineCalls, PoolCloses};
 ghost use Rattle.demands.specs.Demand3.{Agree, Same};
-use fervolatro::EntryAnswer;
-use fervolatro::HeadingAnswer;
-use fervolatro::PoolAnswer;
-use fervolatro::VerdictAnswer;
-use fervolatro::WrittenAnswer;
+use answers::EntryAnswer;
+use answers::HeadingAnswer;
+use answers::PoolAnswer;
+use answers::VerdictAnswer;
+use answers::WrittenAnswer;
 
 pub fn check(book: &[u8]) -> VerdictAnswer
     ensures { λ r. ⌜ CheckAnswered (now (book .entry)) r ⌝ }

@@ -1,7 +1,7 @@
 -- Lines counted without being made: a unit row's, a run's, a constraint's, a contract's, and all. Assumes nothing.
 use Prim.Native.Nat.{ℕ, zero, suc, _+_, _≤_, _<_}
 use mathlib.Core.Path.{_≡_, refl, sym, ap, ap₂, _∙_}
-use mathlib.Core.Bool.{Bool, true, false, cond}
+use mathlib.Core.Bool.{cond}
 use mathlib.Core.List.{List, []}
 use mathlib.Core.Logic.{_⊎_, inl, inr, ⊎-elim}
 use borrow.Author.Tests.{eq-eqb, ne-eqb}
@@ -12,6 +12,7 @@ use native.Mathlib.Nat.{eq-or-lt-of-le}
 use Rattle.ground.specs.Bytes.{partFrom}
 use Rattle.sections.specs.Total.{total, keyed}
 use Rattle.sections.specs.Inner.Walk.{Under, Sought}
+use Rattle.sections.proofs.Cases.{cond-same}
 use Rattle.sections.proofs.Walk.{under-later}
 use Rattle.sections.proofs.Total.{total-none, total-more, total-all, total-zero, total-same, total-plus, total-swap, total-only, total-five, keyed-hit, keyed-miss}
 use Rattle.sections.proofs.Search.{lt-or-ge}
@@ -30,9 +31,9 @@ use Rattle.book.specs.Book.{bookIn}
 use Rattle.book.specs.Header.{unitsFrom, contractsFrom}
 use Rattle.book.specs.declared.header.Header.{Header}
 use Rattle.lines.specs.Lines.{regionLines}
-use Rattle.lines.specs.Inner.Each.{eachOf, regionEach}
+use Rattle.groups.specs.Inner.Each.{eachOf, regionEach}
 use Rattle.lines.specs.Inner.Walks.{ownLines, unitLinesAt, conLines, conLinesAt, contractLinesAt, bookLines}
-use Rattle.lines.proofs.Numbering.{choice-length, unit-length, rest-length, region-length}
+use Rattle.groups.proofs.Numbering.{choice-length, unit-length, rest-length, region-length}
 use Rattle.walk.proofs.Order.{rises-once}
 use Rattle.count.specs.Inner.Counts.{countIn, rowCount, UnitsCounted, BareOf, Countable, MetAt, ConstraintsCounted, ContractCounted, ContractsCounted, BookCounted}
 use Rattle.count.specs.declared.Met.{Met}
@@ -54,11 +55,7 @@ module _ (unit : ℕ → UnitRow) (account : ℕ) (r : Constraint) (u : ℕ) whe
 
   other : (unit u .account ≡ account → ⊥) → countIn unit account r u ≡ 0
   unfolding countIn keyed
-  other d = rw (ne-eqb _ _ d) (nothing (eqb (keyOf unit u) (r .id)))
-    where
-      nothing : (t : Bool) → _≡_ {A = ℕ} (cond t 0 0) 0
-      nothing true = refl
-      nothing false = refl
+  other d = rw (ne-eqb _ _ d) (cond-same (eqb (keyOf unit u) (r .id)) 0)
 
   row-length : length (unitLinesAt unit account r (poolsOf r) u) ≡ countIn unit account r u
   unfolding unitLinesAt ownLines countIn keyed

@@ -27,12 +27,12 @@ use Rattle.unpacking.specs.Unpacking.{allFields, unpacked}
 use Rattle.settlement.specs.Settle.{outcome}
 use Rattle.balance.specs.Pools.{Found, past, found, poolsIn, poolAt}
 use Rattle.balance.specs.Balance.{answerTo, balancesIn, balanceIf, balanceOf}
-use Rattle.fervolatro.specs.Answers.{verdictAnswer, writtenAnswer, headingAnswer, entryAnswer, poolAnswer, Called}
-use Rattle.fervolatro.specs.declared.VerdictAnswer.{VerdictAnswer}
-use Rattle.fervolatro.specs.declared.WrittenAnswer.{WrittenAnswer}
-use Rattle.fervolatro.specs.declared.HeadingAnswer.{HeadingAnswer}
-use Rattle.fervolatro.specs.declared.EntryAnswer.{EntryAnswer}
-use Rattle.fervolatro.specs.declared.PoolAnswer.{PoolAnswer}
+use Rattle.answers.specs.Answers.{verdictAnswer, writtenAnswer, headingAnswer, entryAnswer, poolAnswer, Called}
+use Rattle.answers.specs.declared.VerdictAnswer.{VerdictAnswer}
+use Rattle.answers.specs.declared.WrittenAnswer.{WrittenAnswer}
+use Rattle.answers.specs.declared.HeadingAnswer.{HeadingAnswer}
+use Rattle.answers.specs.declared.EntryAnswer.{EntryAnswer}
+use Rattle.answers.specs.declared.PoolAnswer.{PoolAnswer}
 use Rattle.demands.specs.Demand1.{onABook, onABalance, onAStatement, onRewriting, OneOf, Answered, written, short, refused, CheckAnswered, PoolAnswered, HeadingAnswered, EntryAnswered, EveryInputIsAnswered}
 use Rattle.demands.proofs.Numbers.{Within, verdict-numbers, outcome-numbers, statement-numbers, or-true}
 

@@ -45,10 +45,10 @@ use Rattle.trips.proofs.Trip.{written-and-read}
 use Rattle.guide.specs.Guide.{guideLines}
 use Rattle.guide.proofs.Guide.{every-line-is-the-guides}
 use Rattle.guide.proofs.Checks.{check-5-is-the-guides, check-8-is-the-guides, check-9-is-the-guides}
-use Rattle.fervolatro.specs.Answers.{verdictAnswer, headingAnswer, entryAnswer, poolAnswer}
-use Rattle.fervolatro.specs.declared.VerdictAnswer.{VerdictAnswer}
-use Rattle.fervolatro.specs.declared.WrittenAnswer.{WrittenAnswer}
-use Rattle.fervolatro.specs.declared.PoolAnswer.{PoolAnswer}
+use Rattle.answers.specs.Answers.{verdictAnswer, headingAnswer, entryAnswer, poolAnswer}
+use Rattle.answers.specs.declared.VerdictAnswer.{VerdictAnswer}
+use Rattle.answers.specs.declared.WrittenAnswer.{WrittenAnswer}
+use Rattle.answers.specs.declared.PoolAnswer.{PoolAnswer}
 use Rattle.demands.specs.Demand1.{OneOf, Gives, Answered, written, short, refused, onAStatement, onRewriting}
 use Rattle.demands.specs.Demand2.{NumbersAreTheGuides, guideStatement, numbered, front, StatementIsTheGuides, fieldsAt, LinesAreTheLineCalls, PoolCloses, EveryLineIsTheGuides}
 use Rattle.demands.proofs.Numbers.{verdict-numbers}

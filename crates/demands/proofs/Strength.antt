@@ -14,10 +14,10 @@ use Rattle.sharing.specs.Once.{has}
 use Rattle.statement.specs.Lent.{Outcome}
 use Rattle.reading.specs.Calls.{headingRead, lineRead}
 use Rattle.settlement.specs.Settle.{outcome}
-use Rattle.fervolatro.specs.Answers.{headingAnswer, entryAnswer, Called}
-use Rattle.fervolatro.specs.declared.WrittenAnswer.{WrittenAnswer}
-use Rattle.fervolatro.specs.declared.EntryAnswer.{EntryAnswer}
-use Rattle.fervolatro.specs.declared.PoolAnswer.{PoolAnswer}
+use Rattle.answers.specs.Answers.{headingAnswer, entryAnswer, Called}
+use Rattle.answers.specs.declared.WrittenAnswer.{WrittenAnswer}
+use Rattle.answers.specs.declared.EntryAnswer.{EntryAnswer}
+use Rattle.answers.specs.declared.PoolAnswer.{PoolAnswer}
 use Rattle.demands.specs.Demand1.{onABook, OneOf, Answered, written, short, refused}
 use Rattle.demands.specs.Demand2.{front, LinesAreTheLineCalls, PoolCloses}
 use Rattle.demands.proofs.Demand3.{no-neighbours-figure}

@@ -18,12 +18,12 @@ use Rattle.reading.specs.Rewriting.{rewritten}
 use Rattle.unpacking.specs.Unpacking.{unpacked}
 use Rattle.settlement.specs.Settle.{outcome}
 use Rattle.balance.specs.Balance.{balanceOf}
-use Rattle.fervolatro.specs.Answers.{verdictAnswer, headingAnswer, entryAnswer, poolAnswer, Called}
-use Rattle.fervolatro.specs.declared.VerdictAnswer.{VerdictAnswer}
-use Rattle.fervolatro.specs.declared.WrittenAnswer.{WrittenAnswer}
-use Rattle.fervolatro.specs.declared.HeadingAnswer.{HeadingAnswer}
-use Rattle.fervolatro.specs.declared.EntryAnswer.{EntryAnswer}
-use Rattle.fervolatro.specs.declared.PoolAnswer.{PoolAnswer}
+use Rattle.answers.specs.Answers.{verdictAnswer, headingAnswer, entryAnswer, poolAnswer, Called}
+use Rattle.answers.specs.declared.VerdictAnswer.{VerdictAnswer}
+use Rattle.answers.specs.declared.WrittenAnswer.{WrittenAnswer}
+use Rattle.answers.specs.declared.HeadingAnswer.{HeadingAnswer}
+use Rattle.answers.specs.declared.EntryAnswer.{EntryAnswer}
+use Rattle.answers.specs.declared.PoolAnswer.{PoolAnswer}
 
 -- ---- the numbers of 01's table that each call can give
 

@@ -26,11 +26,11 @@ use Rattle.balance.specs.Balance.{sumZ, accountsOf, balanceOf}
 use Rattle.guide.specs.Signed.{signedBook}
 use Rattle.guide.specs.Guide.{guideLines}
 use Rattle.guide.specs.Checks.{RangesAgree, FactorSums, EntrySums}
-use Rattle.fervolatro.specs.Answers.{verdictAnswer, headingAnswer, entryAnswer, poolAnswer}
-use Rattle.fervolatro.specs.declared.VerdictAnswer.{VerdictAnswer}
-use Rattle.fervolatro.specs.declared.WrittenAnswer.{WrittenAnswer}
-use Rattle.fervolatro.specs.declared.EntryAnswer.{EntryAnswer}
-use Rattle.fervolatro.specs.declared.PoolAnswer.{PoolAnswer}
+use Rattle.answers.specs.Answers.{verdictAnswer, headingAnswer, entryAnswer, poolAnswer}
+use Rattle.answers.specs.declared.VerdictAnswer.{VerdictAnswer}
+use Rattle.answers.specs.declared.WrittenAnswer.{WrittenAnswer}
+use Rattle.answers.specs.declared.EntryAnswer.{EntryAnswer}
+use Rattle.answers.specs.declared.PoolAnswer.{PoolAnswer}
 use Rattle.demands.specs.Demand1.{Gives, StatementCall, RewriteCall, LinesCall}
 
 -- ---- the statement

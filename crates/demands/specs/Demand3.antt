@@ -8,7 +8,7 @@ use Rattle.sections.specs.declared.Verdict.the-variants.{Accepted}
 use Rattle.book.specs.Book.{bookOf}
 use Rattle.book.specs.Table.{verdict}
 use Rattle.accounts.specs.Account.{publicOf, rowsOfAccount}
-use Rattle.fervolatro.specs.declared.WrittenAnswer.{WrittenAnswer}
+use Rattle.answers.specs.declared.WrittenAnswer.{WrittenAnswer}
 use Rattle.demands.specs.Demand1.{StatementCall}
 
 -- two accepted books b and c agree: `publicOf` is date, interval, run, region totals, constraints and contracts, `rowsOfAccount` the

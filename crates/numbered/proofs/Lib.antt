@@ -1,4 +1,1 @@
-pub mod Joined
-pub mod Units
-pub mod OneConstraint
 pub mod Records

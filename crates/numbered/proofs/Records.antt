@@ -24,12 +24,12 @@ use Rattle.lines.specs.Lines.{regionLines}
 use Rattle.lines.specs.Inner.Walks.{conLines, conLinesAt, contractLinesAt, bookLines, Ready}
 use Rattle.lines.proofs.Parts.{conPart, paidPart, both-parts}
 use Rattle.numbered.specs.Numbered.{answerOf, numberedIn}
-use Rattle.numbered.specs.Inner.Sought.{Rests, Bare, Answers, SoughtIn}
-use Rattle.numbered.specs.declared.Numbered.{Numbered}
-use Rattle.numbered.specs.declared.Numbered.the-variants as numbered
-use Rattle.numbered.specs.declared.constraint.Sought.{Sought}
-use Rattle.numbered.specs.declared.constraint.Sought.the-variants as sought
-use Rattle.numbered.proofs.Joined.{pass-more, found-in}
+use Rattle.lookup.specs.Inner.Sought.{Rests, Bare, Answers, SoughtIn}
+use Rattle.lookup.specs.declared.Numbered.{Numbered}
+use Rattle.lookup.specs.declared.Numbered.the-variants as numbered
+use Rattle.lookup.specs.declared.constraint.Sought.{Sought}
+use Rattle.lookup.specs.declared.constraint.Sought.the-variants as sought
+use Rattle.lookup.proofs.Joined.{pass-more, found-in}
 
 -- ---- what constraint j rests on
 

@@ -3,8 +3,8 @@ use Prim.Native.Nat.{ℕ}
 use mathlib.Core.List.{List}
 use Rattle.ground.specs.Nth.{Nth, found, past, nth}
 use Rattle.statement.specs.declared.Line.{Line}
-use Rattle.numbered.specs.declared.Numbered.{Numbered}
-use Rattle.numbered.specs.declared.Numbered.the-variants as numbered
+use Rattle.lookup.specs.declared.Numbered.{Numbered}
+use Rattle.lookup.specs.declared.Numbered.the-variants as numbered
 
 -- a line; or there are fewer, and what the number has beyond the last
 unfoldable pub answerOf : Nth Line → Numbered

@@ -1,7 +1,4 @@
 // One line of an account by its number, from 0 in the statement's order. What lies before it is counted, and only the one line is made.
-mod constraint; // constraint.rt: the line of a number among those of one constraint
-mod contract; // contract.rt: the line of a number among those of one contract
-
 ghost use mathlib.Core.Path.{_≡_};
 ghost use Prim.Native.Nat.{ℕ, _*_, _≤_, _<_};
 ghost use lib.ListN.{length};
@@ -12,19 +9,15 @@ ghost use Rattle.book.specs.Book.{bookIn};
 ghost use Rattle.book.specs.Inner.Facts.{Laid};
 ghost use Rattle.lines.specs.Inner.Walks.{conLinesAt, contractLinesAt, bookLines, Ready, ContractSettles, Walkable};
 ghost use Rattle.numbered.specs.Numbered.{numberedIn};
-ghost use Rattle.numbered.specs.Inner.Sought.{Answers};
-use crate::constraint::Asked;
-use crate::constraint::Sought;
+ghost use Rattle.lookup.specs.Inner.Sought.{Answers};
 use book::header::Header;
+use lookup::Numbered;
+use lookup::constraint;
+use lookup::constraint::Asked;
+use lookup::constraint::Sought;
+use lookup::contract;
 use records::rows;
-use statement::Line;
 use totals::entries::Totals;
-
-// The line; or there are fewer, and what the number has beyond the last.
-pub enum Numbered {
-    Line(Line),
-    Past(usize),
-}
 
 // The line of a number among those of the n constraints. The search among the unit rows only moves forward.
 fn in_constraints(

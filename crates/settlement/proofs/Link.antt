@@ -1,10 +1,10 @@
 -- The walk over a book's rows meets the lines of the statement's definition, in its order. Assumes nothing.
-use Prim.Native.Nat.{ℕ, zero, suc, _<_}
+use Prim.Native.Nat.{ℕ, _<_}
 use mathlib.Core.Path.{_≡_, refl, sym, ap₂, _∙_}
 use mathlib.Core.Bool.{Bool, true, false, cond}
 use mathlib.Core.List.{List, [], _++_}
 use lib.Dec.{eqb}
-use native.Mathlib.Omega.{arith}
+use Rattle.sections.proofs.Cases.{five}
 use Rattle.records.specs.declared.rows.Entry.{Entry}
 use Rattle.records.specs.declared.rows.Constraint.{Constraint}
 use Rattle.records.specs.declared.rows.UnitRow.{UnitRow}
@@ -28,15 +28,7 @@ use Rattle.lines.specs.Inner.Walks.{ownLines, unitLinesAt, conLines, conLinesAt
 
 pub entry-in : (f : ℕ → Entry) (g : ℕ) → g < 5 → entryIn (rowsOf f 5) g ≡ f g
 unfolding entryIn rowsOf
-entry-in f zero l = refl
-entry-in f (suc zero) l = refl
-entry-in f (suc (suc zero)) l = refl
-entry-in f (suc (suc (suc zero))) l = refl
-entry-in f (suc (suc (suc (suc zero)))) l = refl
-entry-in f (suc (suc (suc (suc (suc g))))) l = absurd (none l)
-  where
-    none : suc (suc (suc (suc (suc g)))) < 5 → ⊥
-    none l = omega arith
+entry-in f = five (λ g. entryIn (rowsOf f 5) g ≡ f g) refl refl refl refl refl
 
 -- ---- unit rows
 

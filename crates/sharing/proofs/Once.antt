@@ -11,6 +11,7 @@ use lib.Dec.{eqb}
 use lib.ListN.{length}
 use Rattle.sections.specs.Total.{total}
 use Rattle.sections.specs.Search.{some}
+use Rattle.sections.proofs.Cases.{zero-one}
 use Rattle.sections.proofs.Search.{some-none}
 use Rattle.accounts.specs.Rows.{sumOf}
 use Rattle.sharing.specs.Once.{has, joinNew, named, times}
@@ -38,7 +39,7 @@ module _ (name : ℕ → ℕ) where
   -- nor does any record give a name that is not seen
   pub unseen-each : (n a : ℕ) → seen name n a ≡ false → (k : ℕ) → k < n → eqb (name k) a ≡ false
   unseen-each n a e k l =
-      ne-eqb (name k) a (λ (q : name k ≡ a). let z : _≡_ {A = ℕ} 0 1 = cc (seen-each n k l) in omega arith)
+      ne-eqb (name k) a (λ (q : name k ≡ a). zero-one (cc (seen-each n k l)))
 
 -- ---- which names stand in a list
 

@@ -6,7 +6,7 @@ use borrow.Author.Needs.{needs}
 use Rattle.sections.specs.Total.{total}
 use Rattle.sections.proofs.Total.{total-none, total-more, total-all}
 use Rattle.records.specs.Rows.{constraintRow}
-use Rattle.lines.specs.Inner.Each.{eachOf}
+use Rattle.groups.specs.Inner.Each.{eachOf}
 use Rattle.count.proofs.other_lines.Statement.{statement}
 use Rattle.count.proofs.other_lines.Tie as tie
 

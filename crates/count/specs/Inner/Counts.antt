@@ -17,7 +17,7 @@ use Rattle.totals.specs.declared.entries.Totals.{Totals}
 use Rattle.accounts.specs.Rows.{joined}
 use Rattle.book.specs.Book.{Book}
 use Rattle.lines.specs.Lines.{regionLines}
-use Rattle.lines.specs.Inner.Each.{eachOf}
+use Rattle.groups.specs.Inner.Each.{eachOf}
 use Rattle.lines.specs.Inner.Walks.{conLinesAt, contractLinesAt, bookLines}
 use Rattle.count.specs.declared.Met.{Met}
 

@@ -1,6 +1,6 @@
 -- `fervolatro::fervolatro_balance` meets its contract. The answer to the pool's balance. Assumes nothing.
 use mathlib.Core.Path.{_∙_, ap}
-use Rattle.fervolatro.specs.Answers.{poolAnswer}
+use Rattle.answers.specs.Answers.{poolAnswer}
 use borrow.Author.Needs.{needs}
 use Rattle.fervolatro.proofs.fervolatro_balance.Statement.{statement}
 use Rattle.fervolatro.proofs.fervolatro_balance.Tie as tie

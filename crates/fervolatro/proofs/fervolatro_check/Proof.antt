@@ -1,7 +1,7 @@
 -- `fervolatro::fervolatro_check` meets its contract. The answer to the book's verdict. Assumes nothing.
 use mathlib.Core.Path.{_∙_, ap}
 use borrow.Author.Needs.{needs}
-use Rattle.fervolatro.specs.Answers.{verdictAnswer}
+use Rattle.answers.specs.Answers.{verdictAnswer}
 use Rattle.fervolatro.proofs.fervolatro_check.Statement.{statement}
 use Rattle.fervolatro.proofs.fervolatro_check.Tie as tie
 

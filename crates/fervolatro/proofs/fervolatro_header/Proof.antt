@@ -1,7 +1,6 @@
 -- `fervolatro::fervolatro_header` meets its contract. The answer to the header that is read. Assumes nothing.
 use mathlib.Core.Path.{_∙_, ap}
-use Rattle.fervolatro.specs.Answers.{headingAnswer}
-use Rattle.fervolatro.specs.Answers.{headingAnswer}
+use Rattle.answers.specs.Answers.{headingAnswer}
 use borrow.Author.Needs.{needs}
 use Rattle.fervolatro.proofs.fervolatro_header.Statement.{statement}
 use Rattle.fervolatro.proofs.fervolatro_header.Tie as tie

@@ -1,7 +1,6 @@
 -- `fervolatro::fervolatro_line` meets its contract. The answer to the line that is read. Assumes nothing.
 use mathlib.Core.Path.{_∙_, ap}
-use Rattle.fervolatro.specs.Answers.{entryAnswer}
-use Rattle.fervolatro.specs.Answers.{entryAnswer}
+use Rattle.answers.specs.Answers.{entryAnswer}
 use borrow.Author.Needs.{needs}
 use Rattle.fervolatro.proofs.fervolatro_line.Statement.{statement}
 use Rattle.fervolatro.proofs.fervolatro_line.Tie as tie

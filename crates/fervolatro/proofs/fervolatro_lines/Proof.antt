@@ -1,6 +1,6 @@
 -- `fervolatro::fervolatro_lines` meets its contract. The answer to what the unpacking call answers, and its buffer. Assumes nothing.
 use mathlib.Core.Path.{_∙_, ap}
-use Rattle.fervolatro.specs.Answers.{writtenAnswer}
+use Rattle.answers.specs.Answers.{writtenAnswer}
 use borrow.Author.Needs.{needs}
 use Rattle.fervolatro.proofs.fervolatro_lines.Statement.{statement}
 use Rattle.fervolatro.proofs.fervolatro_lines.Tie as tie

@@ -1,7 +1,6 @@
 -- `fervolatro::fervolatro_rewrite` meets its contract. The answer to what the rewriting call answers, and its buffer. Assumes nothing.
 use mathlib.Core.Path.{_∙_, ap}
-use Rattle.fervolatro.specs.Answers.{writtenAnswer}
-use Rattle.fervolatro.specs.Answers.{writtenAnswer}
+use Rattle.answers.specs.Answers.{writtenAnswer}
 use borrow.Author.Needs.{needs}
 use Rattle.fervolatro.proofs.fervolatro_rewrite.Statement.{statement}
 use Rattle.fervolatro.proofs.fervolatro_rewrite.Tie as tie

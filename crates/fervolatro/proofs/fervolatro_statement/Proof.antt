@@ -1,7 +1,7 @@
 -- `fervolatro::fervolatro_statement` meets its contract. The answer to what the settlement call answers, and its buffer. Assumes nothing.
 use mathlib.Core.Path.{_∙_, ap}
 use borrow.Author.Needs.{needs}
-use Rattle.fervolatro.specs.Answers.{writtenAnswer}
+use Rattle.answers.specs.Answers.{writtenAnswer}
 use Rattle.fervolatro.proofs.fervolatro_statement.Statement.{statement}
 use Rattle.fervolatro.proofs.fervolatro_statement.Tie as tie
 

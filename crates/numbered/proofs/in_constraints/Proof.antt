@@ -9,8 +9,8 @@ use Rattle.records.specs.Rows.{entryRow, constraintRow, unitRow}
 use Rattle.factors.specs.Naming.{idOf, keyOf}
 use Rattle.accounts.specs.Rows.{joined}
 use Rattle.lines.specs.Inner.Walks.{conLinesAt}
-use Rattle.numbered.specs.Inner.Sought.{Answers}
-use Rattle.numbered.proofs.Joined.{pass-none, pass-all}
+use Rattle.lookup.specs.Inner.Sought.{Answers}
+use Rattle.lookup.proofs.Joined.{pass-none, pass-all}
 use Rattle.numbered.proofs.Records.{rests-at, bare-at, con-found, con-passed, con-next}
 use borrow.Author.Needs.{needs}
 use Rattle.numbered.proofs.in_constraints.Statement.{statement}

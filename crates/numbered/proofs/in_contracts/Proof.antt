@@ -7,8 +7,8 @@ use Rattle.records.specs.Rows.{entryRow, contractRow}
 use Rattle.totals.specs.Inner.Totals.{entryOf}
 use Rattle.accounts.specs.Rows.{joined}
 use Rattle.lines.specs.Inner.Walks.{contractLinesAt}
-use Rattle.numbered.specs.Inner.Sought.{Answers}
-use Rattle.numbered.proofs.Joined.{pass-none, pass-all}
+use Rattle.lookup.specs.Inner.Sought.{Answers}
+use Rattle.lookup.proofs.Joined.{pass-none, pass-all}
 use Rattle.numbered.proofs.Records.{paid-found, paid-passed}
 use borrow.Author.Needs.{needs}
 use Rattle.numbered.proofs.in_contracts.Statement.{statement}

@@ -1,5 +1,5 @@
-//! Guard of the edge's shape: the calls and the answers of `crates/fervolatro` are those
-//! of the header, parameter by parameter and field by field, in order and width. The C
+//! Guard of the edge's shape: the calls of `crates/fervolatro` and their answers, the
+//! structs of `crates/answers`, are those of the header, parameter by parameter and field by field, in order and width. The C
 //! tests see the values; this sees what no value shows, such as a refusal's number of
 //! 32 bits with an upper half that happens to be 0.
 
@@ -8,6 +8,7 @@ use crate::repository::Repository;
 
 pub const HEADER: &str = "include/fervolatro.h";
 pub const CODE: &str = "crates/fervolatro/src/lib.rt";
+pub const ANSWERS: &str = "crates/answers/src/lib.rt";
 
 /// Calls and answers that the header has otherwise than the code.
 pub fn unlike_the_header(repository: &Repository) -> Vec<String> {
@@ -20,7 +21,7 @@ pub fn unlike_the_header(repository: &Repository) -> Vec<String> {
     for prototype in &prototypes {
         match calls.iter().find(|call| call.name() == prototype.name) {
             Some(call) => {
-                let why = why_unlike(&header, prototype, repository.text(CODE), call);
+                let why = why_unlike(&header, prototype, repository.text(ANSWERS), call);
                 complaints.extend(why);
             }
             None => complaints.push(format!("{CODE} has no call {}", prototype.name)),
@@ -64,7 +65,7 @@ struct Prototype<'a> {
     parameters: Vec<&'a str>,
 }
 
-fn why_unlike(header: &str, of: &Prototype, code: &str, call: &Function) -> Option<String> {
+fn why_unlike(header: &str, of: &Prototype, answers: &str, call: &Function) -> Option<String> {
     let name = of.name;
     let signature = call.signature.split_once(" -> ");
     let (parameters, result) = signature.unwrap_or((&call.signature, "nothing"));
@@ -77,7 +78,7 @@ fn why_unlike(header: &str, of: &Prototype, code: &str, call: &Function) -> Opti
     }
     let (theirs, ours) = (
         fields_in_header(header, of.answer),
-        fields_in_code(code, result),
+        fields_in_code(answers, result),
     );
     let is_same = theirs == ours && !ours.is_empty();
     (!is_same).then(|| format!("{name} answers {theirs:?} in C, the code {ours:?}"))

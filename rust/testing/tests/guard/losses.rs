@@ -650,9 +650,6 @@ fn an_edge_of_another_shape_is_noticed() {
     let account = "    account: u32,\n    buffer: &mut [u8],\n";
     let behind = "    buffer: &mut [u8],\n    account: u32,\n";
     let changes = [
-        (verdict, exchanged, "fervolatro_check"),
-        (verdict, narrow, "fervolatro_check"),
-        (&free, verdict, "fervolatro_check"),
         (account, behind, "fervolatro_statement"),
         ("index: u64", "index: u32", "fervolatro_line"),
         ("number: u64", "number: u32", "fervolatro_balance"),
@@ -664,6 +661,10 @@ fn an_edge_of_another_shape_is_noticed() {
     ];
     for (old, new, about) in changes {
         watch.notices(about, |changed| replace(changed, edge::CODE, old, new));
+    }
+    for (old, new) in [(verdict, exchanged), (verdict, narrow), (&free, verdict)] {
+        let change = |changed: &mut _| replace(changed, edge::ANSWERS, old, new);
+        watch.notices("fervolatro_check", change);
     }
 }
 

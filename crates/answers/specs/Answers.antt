@@ -1,0 +1,52 @@
+-- What a caller in C or Rust is answered for each case of a verdict, of a written statement, of one that is read, and of a pool's balance.
+use Rattle.sections.specs.declared.Verdict.{Verdict}
+use Rattle.sections.specs.declared.Verdict.the-variants.{Accepted, Refused}
+use Prim.Native.Nat.{ℕ}
+use lib.IntN.{pos}
+use mathlib.Core.Path.{_≡_}
+use mathlib.Core.List.{List}
+use Rattle.statement.specs.Lent.{Outcome, answerFor, leftIn}
+use Rattle.statement.specs.declared.Written.{Written}
+use Rattle.statement.specs.declared.Written.the-variants as written
+use Rattle.reading.specs.declared.HeadingRead.{HeadingRead}
+use Rattle.reading.specs.declared.HeadingRead.the-variants as heading
+use Rattle.reading.specs.declared.LineRead.{LineRead}
+use Rattle.reading.specs.declared.LineRead.the-variants as line
+use Rattle.balance.specs.declared.Balanced.{Balanced}
+use Rattle.balance.specs.declared.Balanced.the-variants as balanced
+use Rattle.answers.specs.declared.VerdictAnswer.{VerdictAnswer}
+use Rattle.answers.specs.declared.WrittenAnswer.{WrittenAnswer}
+use Rattle.answers.specs.declared.HeadingAnswer.{HeadingAnswer}
+use Rattle.answers.specs.declared.EntryAnswer.{EntryAnswer}
+use Rattle.answers.specs.declared.PoolAnswer.{PoolAnswer}
+
+-- 01, Refusals: "A refusal answers its number and place"; acceptance is number 0 at place 0
+unfoldable pub verdictAnswer : Verdict → VerdictAnswer
+verdictAnswer Accepted = record { refusal = 0; place = 0 }
+verdictAnswer (Refused number place) = record { refusal = number; place = place }
+
+-- "A refusal answers its number and place, any other number in the answer 0"
+unfoldable pub writtenAnswer : Written → WrittenAnswer
+writtenAnswer (written.Length length) = record { refusal = 0; place = 0; length = length }
+writtenAnswer (written.Refused number place) = record { refusal = number; place = place; length = 0 }
+
+-- what the call answers, and what the buffer holds then
+pub record Called (o : Outcome) (l : List ℕ) (r : WrittenAnswer) (b : List ℕ) : Type 0 where
+  pub answer : r ≡ writtenAnswer (answerFor o l)
+  pub left : b ≡ leftIn o l
+
+unfoldable pub headingAnswer : HeadingRead → HeadingAnswer
+headingAnswer (heading.Heading h) =
+    record { refusal = 0; place = 0; account = h .account; date = h .date; interval = h .interval; run = h .run; lines = h .lines }
+headingAnswer (heading.Refused number place) =
+    record { refusal = number; place = place; account = 0; date = 0; interval = 0; run = 0; lines = 0 }
+
+unfoldable pub entryAnswer : LineRead → EntryAnswer
+entryAnswer (line.Line l) =
+    record { refusal = 0; place = 0; id = l .id; part = l .part; regions = l .regions; unit = l .unit; amount = l .amount }
+entryAnswer (line.Refused number place) =
+    record { refusal = number; place = place; id = 0; part = 0; regions = 0; unit = 0; amount = pos 0 }
+
+unfoldable pub poolAnswer : Balanced → PoolAnswer
+poolAnswer (balanced.Pool b) = record { refusal = 0; place = 0; amount = b .amount; lines = b .lines; sum = b .sum }
+poolAnswer (balanced.Refused number place) = record { refusal = number; place = place; amount = pos 0; lines = 0; sum = pos 0 }

@@ -1,0 +1,160 @@
+// What a caller in C or Rust is answered (include/fervolatro.h): plain structs of numbers, and how each case of an answer fills them.
+ghost use mathlib.Core.Path.{_≡_};
+ghost use Rattle.answers.specs.Answers.{verdictAnswer, writtenAnswer, headingAnswer, entryAnswer, poolAnswer};
+use balance::Balanced;
+use reading::HeadingRead;
+use reading::LineRead;
+use sections::Verdict;
+use statement::Written;
+
+// `fervolatro_verdict`: refusal 0 is acceptance, and its place is 0.
+#[repr(C)]
+pub struct VerdictAnswer {
+    pub refusal: u64,
+    pub place: u64,
+}
+
+pub fn answer(v: Verdict) -> VerdictAnswer
+    ensures { λ r. ⌜ r ≡ verdictAnswer v ⌝ }
+{
+    match v {
+        Verdict::Accepted => VerdictAnswer {
+            refusal: 0, // no check refuses it
+            place: 0, // so no place either
+        },
+        Verdict::Refused(number, place) => VerdictAnswer {
+            refusal: number as u64,
+            place: place as u64,
+        },
+    }
+}
+
+// `fervolatro_written`: refusal 0 is success, and then length is how many bytes were written.
+#[repr(C)]
+pub struct WrittenAnswer {
+    pub refusal: u64,
+    pub place: u64,
+    pub length: u64,
+}
+
+pub fn written(w: Written) -> WrittenAnswer
+    ensures { λ r. ⌜ r ≡ writtenAnswer w ⌝ }
+{
+    match w {
+        Written::Length(length) => WrittenAnswer {
+            refusal: 0,
+            place: 0,
+            length: length as u64,
+        },
+        Written::Refused(number, place) => WrittenAnswer {
+            refusal: number as u64,
+            place: place as u64,
+            length: 0,
+        },
+    }
+}
+
+// `fervolatro_heading`: refusal 0 is success, and then the other fields are the header's.
+#[repr(C)]
+pub struct HeadingAnswer {
+    pub refusal: u64,
+    pub place: u64,
+    pub account: u64,
+    pub date: u64,
+    pub interval: u64,
+    pub run: u64,
+    pub lines: u64,
+}
+
+pub fn heading(h: HeadingRead) -> HeadingAnswer
+    ensures { λ r. ⌜ r ≡ headingAnswer h ⌝ }
+{
+    match h {
+        HeadingRead::Heading(x) => HeadingAnswer {
+            refusal: 0,
+            place: 0,
+            account: x.account as u64,
+            date: x.date as u64,
+            interval: x.interval as u64,
+            run: x.run as u64,
+            lines: x.lines as u64,
+        },
+        HeadingRead::Refused(number, place) => HeadingAnswer {
+            refusal: number as u64,
+            place: place as u64,
+            account: 0,
+            date: 0,
+            interval: 0,
+            run: 0,
+            lines: 0,
+        },
+    }
+}
+
+// `fervolatro_entry`: refusal 0 is success, and then the other fields are the line's.
+#[repr(C)]
+pub struct EntryAnswer {
+    pub refusal: u64,
+    pub place: u64,
+    pub id: u64,
+    pub part: u64,
+    pub regions: u64,
+    pub unit: u64,
+    pub amount: i64,
+}
+
+pub fn entry(l: LineRead) -> EntryAnswer
+    ensures { λ r. ⌜ r ≡ entryAnswer l ⌝ }
+{
+    match l {
+        LineRead::Line(x) => EntryAnswer {
+            refusal: 0,
+            place: 0,
+            id: x.id as u64,
+            part: x.part as u64,
+            regions: x.regions as u64,
+            unit: x.unit as u64,
+            amount: x.amount,
+        },
+        LineRead::Refused(number, place) => EntryAnswer {
+            refusal: number as u64,
+            place: place as u64,
+            id: 0,
+            part: 0,
+            regions: 0,
+            unit: 0,
+            amount: 0,
+        },
+    }
+}
+
+// `fervolatro_pool`: refusal 0 is success, and then the other fields are the pool's balance.
+#[repr(C)]
+pub struct PoolAnswer {
+    pub refusal: u64,
+    pub place: u64,
+    pub amount: i64,
+    pub lines: u64,
+    pub sum: i64,
+}
+
+pub fn pool(b: Balanced) -> PoolAnswer
+    ensures { λ r. ⌜ r ≡ poolAnswer b ⌝ }
+{
+    match b {
+        Balanced::Pool(x) => PoolAnswer {
+            refusal: 0,
+            place: 0,
+            amount: x.amount,
+            lines: x.lines as u64,
+            sum: x.sum,
+        },
+        Balanced::Refused(number, place) => PoolAnswer {
+            refusal: number as u64,
+            place: place as u64,
+            amount: 0,
+            lines: 0,
+            sum: 0,
+        },
+    }
+}

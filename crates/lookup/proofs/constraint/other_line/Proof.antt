@@ -1,0 +1,46 @@
+-- `lookup::constraint::other_line` meets its contract. The mode decides: the one line, or one of the residual's. Assumes nothing.
+use Rattle.amounts.proofs.Sizes.{pools-small, residual-small}
+use Rattle.lookup.proofs.OneConstraint.{other-plain, rest-in, other-rest}
+use Rattle.lookup.proofs.constraint.other_line.Statement.{statement}
+use Rattle.lookup.proofs.constraint.other_line.Tie as tie
+
+over-regions-requires : tie.Need-over-regions-requires
+over-regions-requires c κs = c .before .pre .1 .0 .energy
+
+divisor-requires : tie.Need-divisor-requires
+divisor-requires c κs = let s = c .before .before in (s .pre .0, s .pre .1 .0 .entries)
+
+contingency-line-requires : tie.Need-contingency-line-requires
+contingency-line-requires c κs = let s = c .before .before .before .before .before in (s .pre .1 .0 .rule, rw (c .before .before .before .over-regions .ensures, c .before .before .divisor .ensures) (s .pre .1 .0 .shared))
+
+returns : tie.Need-returns
+returns c = other-plain _ _ _ _ (c .before .before .before .before .before .before .pre .1 .1) (c .before .if1 .taken) (rw (c .before .before .before .before .over-regions .ensures, c .before .before .before .divisor .ensures) at (c .contingency-line .ensures))
+
+pools-of-requires : tie.Need-pools-of-requires
+pools-of-requires c κs = c .before .before .before .before .before .pre .1 .0 .rule
+
+residual-of-requires : tie.Need-residual-of-requires
+residual-of-requires c κs = let s = c .before .before .before .before .before .before in (s .pre .1 .0 .rule, rw (c .pools-of .ensures) (pools-small _ (s .pre .1 .0 .rule)))
+
+rest-line-requires : tie.Need-rest-line-requires
+rest-line-requires c κs =
+    let s = c .before .before .before .before .before .before .before in
+    let small = pools-small _ (s .pre .1 .0 .rule) in
+    rw (c .residual-of .ensures, c .before .pools-of .ensures, c .before .before .before .before .before .over-regions .ensures, c .before .before .before .before .divisor .ensures)
+    (rest-in _ _ _ _ (s .pre .1 .1) (c .before .before .if1 .left), (residual-small _ _ (s .pre .1 .0 .rule) small, s .pre .1 .0 .shared))
+
+returns-2 : tie.Need-returns-2
+returns-2 c = other-rest _ _ _ _ (c .before .before .before .before .before .before .before .before .pre .1 .1) (c .before .before .before .if1 .left) (rw (c .before .residual-of .ensures, c .before .before .pools-of .ensures, c .before .before .before .before .before .before .over-regions .ensures, c .before .before .before .before .before .divisor .ensures) at (c .rest-line .ensures))
+
+pub other-line-spec : {M : Type 1} → statement M
+other-line-spec =
+    tie.close
+    (tie.spec
+    over-regions-requires
+    divisor-requires
+    contingency-line-requires
+    returns
+    pools-of-requires
+    residual-of-requires
+    rest-line-requires
+    returns-2)
