@@ -2,7 +2,7 @@
 // Raise or lower, the energy that a cost is shared by, the region's bit and the mode's data are asked here and nowhere else.
 ghost use mathlib.Core.Path.{_≡_};
 ghost use Prim.Native.Nat.{_^_, _<_};
-ghost use Rattle.market.specs.Kinds.{serviceNumbers, regionNumbers, isService, raises, regulates, basisOf, isResidual, isAsoe, picked, bitSet, modeWith};
+ghost use Rattle.market.specs.Kinds.{serviceNumbers, regionNumbers, isService, raises, regulates, basisOf, isResidual, isAsoe, bitSet, modeWith};
 
 // A market frequency service, by its number.
 pub struct Service {
@@ -98,7 +98,9 @@ impl Basis {
         Basis::Ace
     }
 
-    fn is_residual(self) -> bool
+    // Whether it is residual energy, and whether it is ASOE: where the three differ from turn to turn, two tests choose without a branch, which
+    // a match on the three would be, and which the processor would often guess wrong.
+    pub fn is_residual(self) -> bool
         ensures { λ b. ⌜ b ≡ isResidual self ⌝ }
     {
         match self {
@@ -108,7 +110,7 @@ impl Basis {
         }
     }
 
-    fn is_asoe(self) -> bool
+    pub fn is_asoe(self) -> bool
         ensures { λ b. ⌜ b ≡ isAsoe self ⌝ }
     {
         match self {
@@ -116,17 +118,6 @@ impl Basis {
             Basis::Asoe => true,
             Basis::Residual => false,
         }
-    }
-
-    // The one of three numbers. All three are at hand, and two tests choose: a match on the three would be a branch, and which way it goes
-    // the processor would often guess wrong.
-    pub fn pick(self, ace: u64, asoe: u64, residual: u64) -> u64
-        ensures { λ x. ⌜ x ≡ picked self ace asoe residual ⌝ }
-    {
-        if self.is_residual() {
-            return residual;
-        }
-        if self.is_asoe() { asoe } else { ace }
     }
 }
 
