@@ -1,4 +1,4 @@
-// What is shared by energy comes to, over all accounts: an amount over the regions of a constraint.
+// What an amount that is shared by energy over a constraint's regions comes to over all accounts.
 ghost use mathlib.Core.Path.{_≡_};
 ghost use Prim.Native.Nat.{_≤_, _<_};
 ghost use Rattle.ground.specs.Units.{moneyLimit};

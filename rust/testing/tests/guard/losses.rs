@@ -4,6 +4,7 @@
 use std::rc::Rc;
 
 use crate::constants;
+use crate::dependencies;
 use crate::edge;
 use crate::edits;
 use crate::layout;
@@ -275,6 +276,21 @@ fn a_heading_that_is_lost_is_noticed() {
             let [old, new] = [old, new].map(|name| format!("\n## {name}\n"));
             replace(changed, promises::PAGE, &old, &new);
         }
+    });
+}
+
+#[test]
+fn a_dependency_that_nothing_uses_is_noticed() {
+    let repository = Repository::read();
+    let watch = Watch::over(&repository, dependencies::unused);
+    watch.notices("amounts lists calendar", |changed| {
+        replace(changed, "crates.txt", "\namounts: ", "\namounts: calendar ");
+    });
+    let commented = "// calendar::is_date says it\n";
+    watch.notices("amounts lists calendar", |changed| {
+        replace(changed, "crates.txt", "\namounts: ", "\namounts: calendar ");
+        let path = "crates/amounts/src/lib.rt".to_owned();
+        changed.files.insert(path, Rc::from(commented));
     });
 }
 

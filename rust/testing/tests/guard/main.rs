@@ -7,6 +7,7 @@
 //! about it.
 
 mod constants;
+mod dependencies;
 mod edge;
 mod edits;
 mod layout;
@@ -50,6 +51,11 @@ fn every_public_function_is_named_in_promises() {
 #[test]
 fn promises_says_which_functions_ask_nothing() {
     assert_none(&promises::asked_unlike_the_code(&Repository::read()));
+}
+
+#[test]
+fn every_crate_names_what_it_lists() {
+    assert_none(&dependencies::unused(&Repository::read()));
 }
 
 #[test]
