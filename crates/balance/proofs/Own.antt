@@ -12,7 +12,8 @@ use Rattle.totals.specs.Sums.{entryBy, rowBy, regionOf}
 use Rattle.totals.specs.Divisors.{overRegions}
 use Rattle.totals.specs.Inner.Totals.{entryOf}
 use Rattle.totals.specs.declared.entries.Totals.{Totals}
-use Rattle.totals.proofs.Turns.{entry-with, entries-are, five}
+use Rattle.sections.proofs.Cases.{five}
+use Rattle.totals.proofs.Turns.{entry-with, entries-are}
 use Rattle.book.specs.Book.{Book}
 use Rattle.book.specs.Inner.Accepted.{Promise}
 use Rattle.accounts.specs.Rows.{rowsOf}

@@ -8,6 +8,7 @@ use native.Mathlib.Omega.{arith}
 use native.Mathlib.Nat.{zero-mul}
 use borrow.Author.Tests.{eqb-true, eq-eqb, ne-eqb}
 use lib.Dec.{eqb}
+use Rattle.sections.proofs.Cases.{zero-one}
 use Rattle.numbers.specs.Round.{roundN}
 use Rattle.numbers.specs.Sign.{less}
 use Rattle.numbers.proofs.Rounding.{round-zero}
@@ -127,7 +128,7 @@ unfolding byEnergy
 charge-less charge own whole = ap (λ (x : ℕ). less x (roundN (charge * own) whole)) (ap (λ (x : ℕ). roundN x whole) (zero-mul own) ∙ round-zero whole)
 
 not-paid : _≡_ {A = Bool} false true → ⊥
-not-paid e = let z : _≡_ {A = ℕ} 0 1 = cc in omega arith
+not-paid e = zero-one cc
 
 module _ (r : Constraint) where
   -- of a pool of the constraint the part decides

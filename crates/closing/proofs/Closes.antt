@@ -11,6 +11,7 @@ use borrow.Author.Tests.{eqb-true, eqb-false}
 use lib.Dec.{eqb, ltb}
 use lib.IntN.{pos, natAbs, _+ℤ_}
 use lib.ListN.{length}
+use Rattle.sections.proofs.Cases.{cond-same}
 use Rattle.numbers.specs.Round.{roundN}
 use Rattle.numbers.specs.Sign.{less}
 use Rattle.numbers.specs.Sizes.{sizeBelow, aboveOf, belowOf}
@@ -46,7 +47,6 @@ use Rattle.recovery.specs.Inner.Shapes.{aboveBy, belowBy, poolBy, creditBy, cha
 use Rattle.balance.specs.declared.Balance.{Balance}
 use Rattle.recovery.specs.declared.kinds.Kind.{Kind}
 use Rattle.recovery.specs.declared.kinds.Kind.the-variants.{Contingency, Fpp, Used, Unused, Payment}
-use Rattle.recovery.proofs.Energy.{choice-none}
 use Rattle.balance.proofs.Shareables.{cost-shareable, credit-shareable, charge-shareable, paid-by}
 use Rattle.recovery.proofs.Sharing.{consumed-shareable, sent-shareable}
 use Rattle.balance.proofs.Balances.{count-times, shares-once, contingency-balance, regulation-balance, contract-balance}
@@ -164,7 +164,7 @@ module _ {B : Book} (p : Promise B) where
   -- no factor
   no-factor : (id : ℕ) → sumOver (B .unit) (B .header .units) id (λ q. 0) ≡ 0
   unfolding keyed
-  no-factor id = sym (total-zero _ (B .header .units) (λ u l. choice-none (eqb (keyOf (B .unit) u) id)))
+  no-factor id = sym (total-zero _ (B .header .units) (λ u l. cond-same (eqb (keyOf (B .unit) u) id) 0))
 
   module _ (j : ℕ) (l : j < B .header .constraints) (live : B .constraint j .mode ≡ 0 → ⊥) where
     -- the default factors make a million, factored or not

@@ -4,6 +4,7 @@ use mathlib.Core.Path.{_≡_}
 use mathlib.Core.List.{[], List, _∷_, _++_}
 use native.Mathlib.Omega.{arith}
 use native.Mathlib.Nat.{le-refl}
+use Rattle.sections.proofs.Cases.{zero-one}
 use Rattle.accounts.specs.Rows.{joined}
 use Rattle.accounts.specs.Account.{publicOf}
 use Rattle.accounts.proofs.Lists.{joined-rows}
@@ -15,7 +16,7 @@ abbrev pub Each : (Pool → Type 0) → List Pool → Type 0
 Each Q ls = (number : ℕ) (p : Pool) → poolAt ls number ≡ found p → Q p
 
 past-found : (p : Pool) → past ≡ found p → ⊥
-past-found p e = let z : _≡_ {A = ℕ} 0 1 = cc in omega arith
+past-found p e = zero-one cc
 
 module _ (Q : Pool → Type 0) where
   pub each-none : Each Q []

@@ -6,6 +6,7 @@ use mathlib.Core.Bool.{Bool, true, false, cond, not}
 use native.Mathlib.Omega.{arith}
 use borrow.Author.Tests.{eq-eqb, ne-eqb}
 use lib.Dec.{eqb}
+use Rattle.sections.proofs.Cases.{cond-same}
 use Rattle.sections.specs.Total.{total, keyed, totalOf}
 use Rattle.sections.specs.Search.{all}
 use Rattle.sections.proofs.Total.{total-zero, total-same, total-swap, keyed-hit, keyed-miss, total-only}
@@ -34,10 +35,6 @@ choices true true x = refl
 choices true false x = refl
 choices false true x = refl
 choices false false x = refl
-
-pub choice-none : (t : Bool) → _≡_ {A = ℕ} (cond t 0 0) 0
-choice-none true = refl
-choice-none false = refl
 
 -- ---- the mask of one region
 
@@ -70,7 +67,7 @@ module _ {energy : ℕ → EnergyRow} {n : ℕ} {counts : ℕ → Bool} {e : ℕ
       let x : ℕ → ℕ = λ i. cond (counts i) (rowBy (p .basis) (energy i)) 0 in
       let low = c .low i l in
       total-only (λ g. cond (bitSet (p .mask) g) (keyed (regionOf energy) g x i) 0) (energy i .region) 5 (omega arith)
-      (λ g m d. ap (λ (y : ℕ). cond (bitSet (p .mask) g) y 0) (keyed-miss (regionOf energy) g x i (λ q. d (sym q))) ∙ choice-none (bitSet (p .mask) g))
+      (λ g m d. ap (λ (y : ℕ). cond (bitSet (p .mask) g) y 0) (keyed-miss (regionOf energy) g x i (λ q. d (sym q))) ∙ cond-same (bitSet (p .mask) g) 0)
       ∙ ap (λ (y : ℕ). cond (bitSet (p .mask) (energy i .region)) y 0) (sym (keyed-hit (regionOf energy) (energy i .region) x i refl))
       ∙ choices (bitSet (p .mask) (energy i .region)) (counts i) (rowBy (p .basis) (energy i))
 

@@ -10,6 +10,7 @@ use borrow.Author.Tests.{eq-eqb, ne-eqb, eqb-true, eqb-false}
 use lib.Dec.{eqb}
 use lib.ListN.{getD, set, replicate, length-set, length-replicate}
 use lib.Seq.{getD-set-same, getD-set-other}
+use Rattle.sections.proofs.Cases.{cond-same}
 use Rattle.numbers.specs.Round.{roundN}
 use Rattle.numbers.proofs.Rounding.{round-share}
 use Rattle.sections.specs.Total.{total, keyed, totalOf}
@@ -30,7 +31,7 @@ use Rattle.sharing.proofs.Rows.{part-rows}
 use Rattle.recovery.specs.Recovers.{benefiting}
 use Rattle.recovery.specs.Inner.Shapes.{consumedPart, sentPart, regionPaid}
 use Rattle.recovery.specs.Inner.Rests.{PaidBy, PaidIs, Listed, ListsAre, twoShares, rowPays, Fair, Payable, AllPayable}
-use Rattle.recovery.proofs.Energy.{choice-none, one-region}
+use Rattle.recovery.proofs.Energy.{one-region}
 use Rattle.recovery.proofs.Sharing.{sorted, consumed-shareable, sent-shareable}
 
 -- ---- the lists, region by region
@@ -122,7 +123,7 @@ module _ {E : Energies} (p : Sound E) (k : Contract) (o : PaidBy (E .entry) k) w
   region-rows g m = by (eqb (factorOf (k .factors) g) 0)
     where
       by : (t : Bool) → cond t 0 (partSum (consumedPart (E .entry) k g) (E .row) (E .rows) + partSum (sentPart (E .entry) k g) (E .row) (E .rows)) ≡ totalOf (regionOf (E .row)) g (λ i. cond t 0 (sharesIn g (E .row i))) (E .rows)
-      by true = total-zero _ (E .rows) (λ i l. choice-none (eqb (E .row i .region) g))
+      by true = total-zero _ (E .rows) (λ i l. cond-same (eqb (E .row i .region) g) 0)
       by false =
           ap₂ _+_ (part-rows _ (E .row) (E .rows) g (sorted p) (one g m)) (part-rows _ (E .row) (E .rows) g (sorted p) (one g m))
           ∙ sym (keyed-plus _ g _ _ (E .rows))

@@ -108,15 +108,6 @@ share-small r e g h = by (bitSet (r .mask) g)
     by true = entry-small (basisOf (r .service)) e h
     by false = omega arith
 
--- what holds of each of the five regions
-pub five : (P : ℕ → Type 0) → P 0 → P 1 → P 2 → P 3 → P 4 → (g : ℕ) → g < 5 → P g
-five P a b c d e zero l = a
-five P a b c d e (suc zero) l = b
-five P a b c d e (suc (suc zero)) l = c
-five P a b c d e (suc (suc (suc zero))) l = d
-five P a b c d e (suc (suc (suc (suc zero)))) l = e
-five P a b c d e (suc (suc (suc (suc (suc g))))) l = absurd (omega arith)
-
 -- a total to divide by depends on the five entries alone
 pub divisor-same : (f h : ℕ → Entry) (r : Constraint) → ((g : ℕ) → g < 5 → f g ≡ h g) → overRegions f r ≡ overRegions h r
 divisor-same f h r e = total-same _ _ 5 (λ g l. ap (λ (x : Entry). countedIn r x g) (e g l))

@@ -7,6 +7,7 @@ use mathlib.Core.Logic.{_⊎_, inl, inr, ⊎-elim}
 use native.Mathlib.Omega.{arith}
 use borrow.Author.Tests.{eqb-true}
 use lib.Dec.{eqb}
+use Rattle.sections.proofs.Cases.{zero-one}
 use Rattle.ground.specs.Bytes.{partFrom, AreBytes}
 use Rattle.ground.proofs.Back.{u32-small}
 use Rattle.ground.proofs.Part.{part-bytes}
@@ -37,7 +38,7 @@ use Rattle.trips.proofs.Due.{Narrow}
 -- ---- a call that gives bytes passed every check
 
 apart : (number place : ℕ) (xs : List ℕ) → refuses number place ≡ gives xs → ⊥
-apart number place xs e = let z : _≡_ {A = ℕ} 0 1 = cc in omega arith
+apart number place xs e = zero-one cc
 
 -- 1 to 10
 verdict-gives : (v : Verdict) (o : Outcome) (xs : List ℕ) → outcomeIf v o ≡ gives xs → (v ≡ Accepted) × (o ≡ gives xs)

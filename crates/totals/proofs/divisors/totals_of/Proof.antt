@@ -1,5 +1,5 @@
 -- `totals::divisors::totals_of` meets its contract: each entry is read, and each number of it fits a wider type. Assumes nothing.
-use Rattle.totals.proofs.Turns.{five}
+use Rattle.sections.proofs.Cases.{five}
 use borrow.Author.Needs.{needs}
 use Rattle.totals.proofs.divisors.totals_of.Statement.{statement}
 use Rattle.totals.proofs.divisors.totals_of.Tie as tie
