@@ -1,6 +1,6 @@
 -- What the numbers of services, regions and modes stand for, and by which energy a service's cost is shared.
 use Prim.Native.Nat.{ℕ, _/_, _%_, _^_}
-use mathlib.Core.Bool.{Bool, _&&_, cond, true, false}
+use mathlib.Core.Bool.{Bool, _&&_, cond}
 use mathlib.Core.List.{List, [], _∷_}
 use lib.Dec.{eqb, leb}
 use Rattle.market.specs.declared.Basis.{Basis}
@@ -32,16 +32,6 @@ regulates number = leb 9 number
 -- 01, Refusals, 10: "raise contingency, total ASOE over its regions; lower, total ACE; regulation, residual total"; Lines: "ASOE for raise, ACE for lower"
 unfoldable pub basisOf : ℕ → Basis
 basisOf number = cond (regulates number) Residual (cond (raises number) Asoe Ace)
-
-abbrev pub isResidual : Basis → Bool
-isResidual Ace = false
-isResidual Asoe = false
-isResidual Residual = true
-
-abbrev pub isAsoe : Basis → Bool
-isAsoe Ace = false
-isAsoe Asoe = true
-isAsoe Residual = false
 
 -- of an ACE, an ASOE and a residual energy the one that a cost is shared by
 abbrev pub picked : Basis → ℕ → ℕ → ℕ → ℕ

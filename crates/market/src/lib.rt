@@ -2,7 +2,7 @@
 // Raise or lower, the energy that a cost is shared by, the region's bit and the mode's data are asked here and nowhere else.
 ghost use mathlib.Core.Path.{_≡_};
 ghost use Prim.Native.Nat.{_^_, _<_};
-ghost use Rattle.market.specs.Kinds.{serviceNumbers, regionNumbers, isService, raises, regulates, basisOf, isResidual, isAsoe, bitSet, modeWith};
+ghost use Rattle.market.specs.Kinds.{serviceNumbers, regionNumbers, isService, raises, regulates, basisOf, picked, bitSet, modeWith};
 
 // A market frequency service, by its number.
 pub struct Service {
@@ -98,25 +98,15 @@ impl Basis {
         Basis::Ace
     }
 
-    // Whether it is residual energy, and whether it is ASOE: where the three differ from turn to turn, two tests choose without a branch, which
-    // a match on the three would be, and which the processor would often guess wrong.
-    pub fn is_residual(self) -> bool
-        ensures { λ b. ⌜ b ≡ isResidual self ⌝ }
+    // Of an ACE, an ASOE and a residual energy, that of this kind. All three are handed over, so that choosing wants no branch, which the
+    // processor would often guess wrong where the kind differs from turn to turn.
+    pub fn pick(self, ace: u64, asoe: u64, residual: u64) -> u64
+        ensures { λ x. ⌜ x ≡ picked self ace asoe residual ⌝ }
     {
         match self {
-            Basis::Ace => false,
-            Basis::Asoe => false,
-            Basis::Residual => true,
-        }
-    }
-
-    pub fn is_asoe(self) -> bool
-        ensures { λ b. ⌜ b ≡ isAsoe self ⌝ }
-    {
-        match self {
-            Basis::Ace => false,
-            Basis::Asoe => true,
-            Basis::Residual => false,
+            Basis::Ace => ace,
+            Basis::Asoe => asoe,
+            Basis::Residual => residual,
         }
     }
 }

@@ -26,10 +26,7 @@ fn energy_in(t: Totals, basis: Basis, g: usize) -> u64
     let ace = t.ace;
     let asoe = t.asoe;
     let residual = t.residual;
-    if basis.is_residual() {
-        return residual[g];
-    }
-    if basis.is_asoe() { asoe[g] } else { ace[g] }
+    basis.pick(ace[g], asoe[g], residual[g])
 }
 
 // What region g counts for over a constraint's regions.

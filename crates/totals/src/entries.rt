@@ -32,11 +32,11 @@ pub struct EnergyPart {
 pub fn row_by(basis: Basis, r: EnergyRow) -> u64
     ensures { λ x. ⌜ x ≡ rowBy basis r ⌝ }
 {
-    match basis {
-        Basis::Ace => r.ace as u64,
-        Basis::Asoe => r.asoe as u64,
-        Basis::Residual => (r.race as u64) + (r.rasoe as u64),
-    }
+    basis.pick(
+        r.ace as u64,
+        r.asoe as u64,
+        (r.race as u64) + (r.rasoe as u64),
+    )
 }
 
 // One more number in region g's sum.
