@@ -1,4 +1,4 @@
--- The energies of a book, as they lie in the bytes from its region entries on: they are there, and an accepted book's are sound. Assumes nothing.
+-- The energies of a book, as they lie in the bytes from its region entries on: they are there, and a sound book's are sound. Assumes nothing.
 use Prim.Native.Nat.{ℕ, _+_}
 use mathlib.Core.Path.{_≡_, sym, ap, subst, _∙_}
 use mathlib.Core.List.{List}
@@ -8,24 +8,26 @@ use lib.Seq.{drop-drop}
 use Rattle.ground.specs.Bytes.{partFrom}
 use Rattle.ground.proofs.Part.{part-drop}
 use Rattle.records.specs.Rows.{energyRow}
-use Rattle.totals.specs.Inner.Energies.{Energies, energiesIn, PartLaid, Sound}
+use Rattle.totals.specs.Inner.Energies.{Energies, energiesIn, PartLaid, EnergiesSound}
 use Rattle.totals.specs.declared.entries.EnergyPart.{EnergyPart}
 use Rattle.book.specs.Book.{Book, bookIn}
 use Rattle.book.specs.Header.{energiesFrom}
 use Rattle.book.specs.Inner.Facts.{Laid}
-use Rattle.book.specs.Inner.Accepted.{Promise}
+use Rattle.book.specs.Inner.Accepted.{Sound}
 use Rattle.book.specs.declared.header.Header.{Header}
 use Rattle.accounts.specs.Inner.Energies.{energiesOf, PartOf}
+use Rattle.accounts.specs.Inner.Held.{HeldIs}
+use Rattle.accounts.specs.declared.Held.{Held}
 
--- an accepted book's
-pub sound-of : {B : Book} → Promise B → Sound (energiesOf B)
-sound-of p =
+-- a book's that checks 1 to 9 let pass
+pub sound-of : {B : Book} → Sound B → EnergiesSound (energiesOf B)
+sound-of s =
     record {
-      few = p .sound .few .energies;
-      entries = p .sound .fields .entries;
-      rules = p .sound .fields .energies;
-      order = p .sound .ordered .energies;
-      sums = p .sound .entry;
+      few = s .few .energies;
+      entries = s .fields .entries;
+      rules = s .fields .energies;
+      order = s .ordered .energies;
+      sums = s .entry;
     }
 
 module _ (b : List ℕ) (h : Header) (p : EnergyPart) (q : PartOf h p) where
@@ -52,5 +54,9 @@ module _ (b : List ℕ) (h : Header) (p : EnergyPart) (q : PartOf h p) where
         rows = omega (arith, d .long, length-drop 24 b, q .from, q .rows);
       }
 
-  pub part-sound : Promise (bookIn b h) → Sound (energiesIn (partFrom 24 b) p)
-  part-sound s = subst Sound (sym part-energies) (sound-of s)
+  pub part-sound : Sound (bookIn b h) → EnergiesSound (energiesIn (partFrom 24 b) p)
+  part-sound s = subst EnergiesSound (sym part-energies) (sound-of s)
+
+  -- what an account holds of them, it holds of the book
+  pub part-held : (account : ℕ) {x : Held} → HeldIs (energiesIn (partFrom 24 b) p .row) (p .rows) account x → HeldIs (bookIn b h .energy) (h .energies) account x
+  part-held account {x} f = subst (λ (E : Energies). HeldIs (E .row) (E .rows) account x) part-energies f

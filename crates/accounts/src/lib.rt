@@ -9,11 +9,13 @@ ghost use lib.ListN.{length};
 ghost use Rattle.sections.specs.Inner.Order.{Keeps};
 ghost use Rattle.records.specs.Rows.{energyRow, unitRow};
 ghost use Rattle.rules.specs.Inner.Facts.{EnergyRule};
+ghost use Rattle.totals.specs.Inner.Energies.{energiesIn, PartLaid, EnergiesSound};
 ghost use Rattle.accounts.specs.Rows.{rowsOf, keep, none};
 ghost use Rattle.accounts.specs.Inner.Held.{HeldIs};
 use records::find;
 use records::rows;
 use totals::entries;
+use totals::entries::EnergyPart;
 use totals::entries::Totals;
 
 // What an account has in each region, and whether it has an energy row at all.
@@ -23,7 +25,7 @@ pub struct Held {
 }
 
 // The account's energy over the n energy rows. They are sorted by account, so its own stand side by side, and only these are added.
-pub fn own_energy(energy: &[u8], n: usize, account: u32) -> Held
+fn in_rows(energy: &[u8], n: usize, account: u32) -> Held
     requires { ⌜ (n * 24 ≤ length (now energy)) × (n ≤ 1024) ⌝ }
     requires { ⌜ ((i : ℕ) → i < n → EnergyRule (energyRow (now energy) i)) ⌝ }
     requires { ⌜ Keeps (λ i. energyRow (now energy) i .account) n ⌝ }
@@ -47,6 +49,16 @@ pub fn own_energy(energy: &[u8], n: usize, account: u32) -> Held
         },
         any: first < i,
     }
+}
+
+// The account's energy, of those that a book's bytes hold in a part.
+pub fn own_energy(bytes: &[u8], e: EnergyPart, account: u32) -> Held
+    requires { ⌜ PartLaid (now bytes) e ⌝ }
+    requires { ⌜ EnergiesSound (energiesIn (now bytes) e) ⌝ }
+    ensures { λ h. ⌜ HeldIs (energiesIn (now (bytes .entry)) e .row) (e .rows) account h ⌝ }
+{
+    let from = e.from;
+    in_rows(&bytes[from..], e.rows, account)
 }
 
 // Whether one of the m unit rows names the account.

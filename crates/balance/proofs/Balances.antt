@@ -131,7 +131,7 @@ module _ {B : Book} (p : Promise B) where
       by true e = sum-none (accountsOf B)
       by false e =
           let d = eqb-false (factorOf (B .contract i .factors) g) 0 e in
-          sum-plus _ _ (accountsOf B) ∙ ap₂ _+_ (shares-once B _ (consumed-shareable (sound-of p) (paid-by p i l) g m d)) (shares-once B _ (sent-shareable (sound-of p) (paid-by p i l) g m d))
+          sum-plus _ _ (accountsOf B) ∙ ap₂ _+_ (shares-once B _ (consumed-shareable (sound-of (p .sound)) (paid-by p i l) g m d)) (shares-once B _ (sent-shareable (sound-of (p .sound)) (paid-by p i l) g m d))
 
   pub contract-balance : (i : ℕ) → i < B .header .contracts → balanceIn B (contractPool (B .contract i)) ≡ contractShape (energiesOf B) (length (accountsOf B)) (B .contract i)
   unfolding contractPool contractShape

@@ -36,7 +36,7 @@ use Rattle.recovery.proofs.Sharing.{sorted}
 
 module _ (b : List ℕ) (h : Header) (e : ℕ) (q : e ≡ energiesFrom h) where
   pub sorted-at : Promise (bookIn b h) → Sorted (energyRow (partFrom e b)) (h .energies)
-  sorted-at p = rw q (sorted (sound-of p))
+  sorted-at p = rw q (sorted (sound-of (p .sound)))
 
   pub counted-is : (u : ℕ) → u ≡ unitsFrom h → {c : ℕ} → (c ≡ length (accountsIn (energyRow (partFrom e b)) (h .energies) (unitRow (partFrom u b)) (h .units))) × (c ≤ 1624) → Counted (bookIn b h) c
   counted-is u w s = record { all = rw (q, w) at (s .0); few = s .1 }

@@ -20,14 +20,14 @@ module _ {B : Book} (p : Promise B) where
   module _ (j : ℕ) (l : j < B .header .constraints) where
     -- its cost
     pub cost-shareable : Shareable (partOf (B .entry) (B .constraint j) (B .constraint j .cost)) (B .energy) (B .header .energies)
-    cost-shareable = constraint-shareable (sound-of p) (B .constraint j) _ (p .divisor j l) (p .sound .fields .constraints j l .cost)
+    cost-shareable = constraint-shareable (sound-of (p .sound)) (B .constraint j) _ (p .divisor j l) (p .sound .fields .constraints j l .cost)
 
     residual-low : SmallResidual (residualPools (B .constraint j) (poolsOf (B .constraint j)))
     residual-low = let h = p .sound .fields .constraints j l in residual-small (B .constraint j) _ h (pools-small (B .constraint j) h)
 
     -- either side of its residual pool
     pub credit-shareable : (kind : Kind) → Shareable (partOf (B .entry) (B .constraint j) (creditBy kind (residualPools (B .constraint j) (poolsOf (B .constraint j))))) (B .energy) (B .header .energies)
-    credit-shareable kind = constraint-shareable (sound-of p) (B .constraint j) _ (p .divisor j l) (credit-low _ kind residual-low)
+    credit-shareable kind = constraint-shareable (sound-of (p .sound)) (B .constraint j) _ (p .divisor j l) (credit-low _ kind residual-low)
 
     pub charge-shareable : (kind : Kind) → Shareable (partOf (B .entry) (B .constraint j) (chargeBy kind (residualPools (B .constraint j) (poolsOf (B .constraint j))))) (B .energy) (B .header .energies)
-    charge-shareable kind = constraint-shareable (sound-of p) (B .constraint j) _ (p .divisor j l) (charge-low _ kind residual-low)
+    charge-shareable kind = constraint-shareable (sound-of (p .sound)) (B .constraint j) _ (p .divisor j l) (charge-low _ kind residual-low)

@@ -3,7 +3,7 @@ ghost use mathlib.Core.Path.{_≡_};
 ghost use Prim.Native.Nat.{_+_, _*_, _≤_, _<_};
 ghost use Rattle.ground.specs.Units.{moneyLimit};
 ghost use Rattle.totals.specs.Divisors.{overRegions};
-ghost use Rattle.totals.specs.Inner.Energies.{energiesIn, PartLaid, Sound};
+ghost use Rattle.totals.specs.Inner.Energies.{energiesIn, PartLaid, EnergiesSound};
 ghost use Rattle.book.specs.Book.{bookIn};
 ghost use Rattle.book.specs.Inner.Facts.{Laid};
 ghost use Rattle.book.specs.Inner.Accepted.{Promise};
@@ -45,7 +45,7 @@ pub(crate) fn accounts(book: &[u8], h: Header) -> usize
 // A contingency pool: a line of each account.
 pub(crate) fn contingency(bytes: &[u8], e: EnergyPart, r: Constraint, count: usize) -> Balance
     requires { ⌜ PartLaid (now bytes) e ⌝ }
-    requires { ⌜ Sound (energiesIn (now bytes) e) ⌝ }
+    requires { ⌜ EnergiesSound (energiesIn (now bytes) e) ⌝ }
     requires { ⌜ (0 < overRegions (energiesIn (now bytes) e .entry) r) × (r .cost ≤ moneyLimit) ⌝ }
     ensures { λ x. ⌜ x ≡ contingencyShape (energiesIn (now (bytes .entry)) e) count r ⌝ }
 {
@@ -84,7 +84,7 @@ pub(crate) fn regulation(book: &[u8], h: Header, r: Constraint, kind: Kind, coun
 // A contract's pool: two lines of each account in each benefiting region.
 pub(crate) fn contract(bytes: &[u8], e: EnergyPart, k: Contract, count: usize) -> Balance
     requires { ⌜ PartLaid (now bytes) e ⌝ }
-    requires { ⌜ Sound (energiesIn (now bytes) e) ⌝ }
+    requires { ⌜ EnergiesSound (energiesIn (now bytes) e) ⌝ }
     requires { ⌜ PaidBy (energiesIn (now bytes) e .entry) k × (count ≤ 1624) ⌝ }
     ensures { λ x. ⌜ x ≡ contractShape (energiesIn (now (bytes .entry)) e) count k ⌝ }
 {

@@ -233,7 +233,7 @@ module _ {B : Book} (p : Promise B) where
         by true e = rw (nothing (B .contract i .payment) _ (eqb-true (factorOf (B .contract i .factors) g) 0 e)) (record { up = omega arith; down = omega arith })
         by false e =
             let d = eqb-false (factorOf (B .contract i .factors) g) 0 e in
-            within-halves _ (length (accountsOf B)) (part-within _ (consumed-shareable (sound-of p) (paid-by p i l) g m d)) (part-within _ (sent-shareable (sound-of p) (paid-by p i l) g m d))
+            within-halves _ (length (accountsOf B)) (part-within _ (consumed-shareable (sound-of (p .sound)) (paid-by p i l) g m d)) (part-within _ (sent-shareable (sound-of (p .sound)) (paid-by p i l) g m d))
 
     contract-within : HalvesApart (contractShape (energiesOf B) (length (accountsOf B)) (B .contract i) .lines + benefiting (B .contract i)) (B .contract i .payment + 0) (total (regionPaid (energiesOf B) (B .contract i)) 5)
     unfolding contractShape benefiting

@@ -22,7 +22,7 @@ use Rattle.records.specs.declared.rows.Entry.{Entry}
 use Rattle.records.specs.declared.rows.Contract.{Contract}
 use Rattle.records.specs.declared.rows.EnergyRow.{EnergyRow}
 use Rattle.totals.specs.Sums.{regionOf, energyOf}
-use Rattle.totals.specs.Inner.Energies.{Energies, Sound}
+use Rattle.totals.specs.Inner.Energies.{Energies, EnergiesSound}
 use Rattle.amounts.specs.Pools.{halvesOf}
 use Rattle.amounts.specs.declared.pools.Halves.{Halves}
 use Rattle.sharing.specs.Inner.Shares.{partSum, Shareable}
@@ -101,7 +101,7 @@ module _ {factors c s a o : List ℕ} {energy : ℕ → EnergyRow} {n : ℕ} (h 
 
 -- ---- a contract that sound energies can pay
 
-module _ {E : Energies} (p : Sound E) (k : Contract) (o : PaidBy (E .entry) k) where
+module _ {E : Energies} (p : EnergiesSound E) (k : Contract) (o : PaidBy (E .entry) k) where
   low : (i : ℕ) → i < E .rows → E .row i .region < 5
   low i l = omega (arith, p .rules i l .region)
 

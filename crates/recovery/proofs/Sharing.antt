@@ -9,7 +9,7 @@ use Rattle.rules.specs.Rules.{factorOf}
 use Rattle.records.specs.declared.rows.Constraint.{Constraint}
 use Rattle.records.specs.declared.rows.Contract.{Contract}
 use Rattle.totals.specs.Divisors.{countedIn, overRegions}
-use Rattle.totals.specs.Inner.Energies.{Energies, Sound, PartLaid}
+use Rattle.totals.specs.Inner.Energies.{Energies, EnergiesSound, PartLaid}
 use Rattle.totals.proofs.Turns.{share-small}
 use Rattle.amounts.specs.Inner.Bounds.{SmallResidual, SmallHalves, SmallPools}
 use Rattle.amounts.specs.Pools.{poolsOf, halvesOf}
@@ -53,7 +53,7 @@ charge-low x Payment s = omega arith
 
 -- ---- sound energies
 
-module _ {E : Energies} (s : Sound E) where
+module _ {E : Energies} (s : EnergiesSound E) where
   -- the energy rows are in order
   pub sorted : Sorted (E .row) (E .rows)
   sorted = record { few = s .few; rules = s .rules; order = s .order }
@@ -103,7 +103,7 @@ pub rows-room : (s : List ℕ) (p : EnergyPart) → PartLaid s p → p .rows * 2
 rows-room s p d = rw (part-drop (p .from) s, length-drop (p .from) s) (omega (arith, d .rows))
 
 -- an amount over a constraint's regions, by the total that was found
-module _ {E : Energies} (p : Sound E) (r : Constraint) (amount whole : ℕ) (basis : Basis) (w : whole ≡ overRegions (E .entry) r) (e : basis ≡ basisOf (r .service)) where
+module _ {E : Energies} (p : EnergiesSound E) (r : Constraint) (amount whole : ℕ) (basis : Basis) (w : whole ≡ overRegions (E .entry) r) (e : basis ≡ basisOf (r .service)) where
   part-is : record { amount = amount; whole = whole; mask = r .mask; basis = basis } ≡ partOf (E .entry) r amount
   unfolding partOf
   part-is = rw (w, e)

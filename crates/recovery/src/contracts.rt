@@ -6,7 +6,7 @@ ghost use lib.Dec.{eqb};
 ghost use lib.ListN.{length};
 ghost use Rattle.sections.specs.Total.{total};
 ghost use Rattle.records.specs.Rows.{entryRow, energyRow};
-ghost use Rattle.totals.specs.Inner.Energies.{energiesIn, PartLaid, Sound};
+ghost use Rattle.totals.specs.Inner.Energies.{energiesIn, PartLaid, EnergiesSound};
 ghost use Rattle.recovery.specs.Inner.Shapes.{regionPaid};
 ghost use Rattle.recovery.specs.Inner.Rests.{PaidBy, PaidIs, ListsAre, Payable, AllPayable, rowPays};
 use amounts::pools;
@@ -94,7 +94,7 @@ fn pays(
 // What all accounts pay in the regions that a contract benefits.
 fn charges(bytes: &[u8], e: EnergyPart, k: Contract) -> u64
     requires { ⌜ PartLaid (now bytes) e ⌝ }
-    requires { ⌜ Sound (energiesIn (now bytes) e) ⌝ }
+    requires { ⌜ EnergiesSound (energiesIn (now bytes) e) ⌝ }
     requires { ⌜ PaidBy (energiesIn (now bytes) e .entry) k ⌝ }
     ensures { λ x. ⌜ (x ≡ total (regionPaid (energiesIn (now (bytes .entry)) e) k) 5) × (x ≤ 102_400_000_000_000) ⌝ }
 {
@@ -138,7 +138,7 @@ fn benefits(factor: u32) -> usize
 
 pub fn payments(bytes: &[u8], e: EnergyPart, k: Contract) -> Paid
     requires { ⌜ PartLaid (now bytes) e ⌝ }
-    requires { ⌜ Sound (energiesIn (now bytes) e) ⌝ }
+    requires { ⌜ EnergiesSound (energiesIn (now bytes) e) ⌝ }
     requires { ⌜ PaidBy (energiesIn (now bytes) e .entry) k ⌝ }
     ensures { λ x. ⌜ PaidIs (energiesIn (now (bytes .entry)) e) k x ⌝ }
 {

@@ -3,7 +3,7 @@ ghost use mathlib.Core.Path.{_≡_};
 ghost use Prim.Native.Nat.{_≤_, _<_};
 ghost use Rattle.ground.specs.Units.{moneyLimit};
 ghost use Rattle.totals.specs.Divisors.{overRegions};
-ghost use Rattle.totals.specs.Inner.Energies.{energiesIn, PartLaid, Sound};
+ghost use Rattle.totals.specs.Inner.Energies.{energiesIn, PartLaid, EnergiesSound};
 ghost use Rattle.sharing.specs.Inner.Shares.{partSum, Shareable};
 ghost use Rattle.recovery.specs.Inner.Rests.{PartIs};
 use market::Basis;
@@ -15,7 +15,7 @@ use totals::entries::EnergyPart;
 // What a part of a pool comes to over all accounts.
 fn shared(bytes: &[u8], e: EnergyPart, p: Part) -> u64
     requires { ⌜ PartLaid (now bytes) e ⌝ }
-    requires { ⌜ Sound (energiesIn (now bytes) e) ⌝ }
+    requires { ⌜ EnergiesSound (energiesIn (now bytes) e) ⌝ }
     requires { ⌜ Shareable p (energiesIn (now bytes) e .row) (e .rows) ⌝ }
     ensures { λ x. ⌜ (x ≡ partSum p (energiesIn (now (bytes .entry)) e .row) (e .rows)) × (x ≤ 51_200_000_000_000) ⌝ }
 {
@@ -26,7 +26,7 @@ fn shared(bytes: &[u8], e: EnergyPart, p: Part) -> u64
 // What an amount that is shared over a constraint's regions comes to over all accounts.
 pub fn over_regions(bytes: &[u8], e: EnergyPart, r: Constraint, whole: u64, amount: u64) -> u64
     requires { ⌜ PartLaid (now bytes) e ⌝ }
-    requires { ⌜ Sound (energiesIn (now bytes) e) ⌝ }
+    requires { ⌜ EnergiesSound (energiesIn (now bytes) e) ⌝ }
     requires { ⌜ (whole ≡ overRegions (energiesIn (now bytes) e .entry) r) × ((0 < whole) × (amount ≤ moneyLimit)) ⌝ }
     ensures { λ x. ⌜ PartIs (energiesIn (now (bytes .entry)) e) r amount x ⌝ }
 {

@@ -13,6 +13,7 @@ ghost use Rattle.accounts.specs.Account.{publicOf, rowsOfAccount};
 ghost use Rattle.statement.specs.Lent.{Lent};
 ghost use Rattle.settlement.specs.Settle.{settled, outcome};
 ghost use Rattle.settlement.specs.Inner.Owned.{Owned};
+use accounts::energies;
 use book::header;
 use book::header::Header;
 use sections::Verdict;
@@ -54,8 +55,7 @@ fn settle(book: &[u8], h: Header, account: u32, buffer: &mut [u8]) -> Written
     ensures { λ r. ⌜ Lent (settled account (publicOf (bookIn (now (book .entry)) h)) (rowsOfAccount (bookIn (now (book .entry)) h) account)) (now (buffer .entry)) r (now (buffer .exit)) ⌝ }
 {
     let units = h.units_at();
-    let energies = h.energies_at();
-    let held = accounts::own_energy(&book[energies..], h.energies as usize, account);
+    let held = accounts::own_energy(&book[24..], energies::part_of(h), account);
     let own = held.own;
     if !is_known(&book[units..], h.units as usize, held.any, account) {
         return Written::Refused(11, 0);

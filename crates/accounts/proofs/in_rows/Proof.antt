@@ -1,11 +1,11 @@
--- `accounts::own_energy` meets its contract. The invariant, `Sums`: each place has the sum of its region over the account's rows so far. The measure is what is left. Assumes nothing.
+-- `accounts::in_rows` meets its contract. The invariant, `Sums`: each place has the sum of its region over the account's rows so far. The measure is what is left. Assumes nothing.
 use Prim.Native.Nat.{_-_}
 use native.Mathlib.Omega.{arith}
 use borrow.Author.Needs.{needs}
 use Rattle.records.specs.Rows.{energyRow}
 use Rattle.accounts.proofs.Turns.{Sums, sums-start, own-at, own-room, own-more, sums-end}
-use Rattle.accounts.proofs.own_energy.Statement.{statement}
-use Rattle.accounts.proofs.own_energy.Tie as tie
+use Rattle.accounts.proofs.in_rows.Statement.{statement}
+use Rattle.accounts.proofs.in_rows.Tie as tie
 
 abbrev Inv-loop : tie.InvT-loop
 Inv-loop energy n account ace₀ asoe₀ residual₀ first i₀ ace asoe residual i = Sums (energyRow energy) n account i (record { ace = ace; asoe = asoe; residual = residual })
@@ -57,8 +57,8 @@ returns : tie.Need-returns Inv-loop μ-loop
 unfolding energyRow
 returns c = sums-end (energyRow (c .before .before .before .before .before .args .energy .now)) _ _ _ _ (c .before .before .before .before .before .pre .1 .1) (c .before .before .before .first-from .ensures) (c .before .before .loop .inv) (c .before .has-key .ensures) (c .if1 .left)
 
-pub own-energy-spec : {M : Type 1} → statement M
-own-energy-spec =
+pub in-rows-spec : {M : Type 1} → statement M
+in-rows-spec =
     tie.close
     (tie.spec
     Inv-loop

@@ -39,7 +39,7 @@ contingency-requires c κs =
     let start = row .before .before .before in
     let known = start .pre .1 .0 in
     let own = of-constraint (start .pre .1 .0) _ (start .pre .1 .1 .0) _ (start .pre .1 .1 .1) _ (row .constraint-row .ensures) in
-    (part-laid (start .args .book .now) (start .args .h) _ (c .part-of .ensures) (start .pre .0), (part-sound (start .args .book .now) (start .args .h) _ (c .part-of .ensures) known, (constraint-divides known _ own, constraint-rule known _ own .cost)))
+    (part-laid (start .args .book .now) (start .args .h) _ (c .part-of .ensures) (start .pre .0), (part-sound (start .args .book .now) (start .args .h) _ (c .part-of .ensures) (known .sound), (constraint-divides known _ own, constraint-rule known _ own .cost)))
 
 returns : tie.Need-returns
 returns c =

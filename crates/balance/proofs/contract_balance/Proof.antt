@@ -42,7 +42,7 @@ contract-requires c κs =
     let book = start .args .book .now in
     let h = start .args .h in
     let e = c .part-of .ensures in
-    (part-laid book h _ e (start .pre .0), (part-sound book h _ e (start .pre .1 .0), (paid-in {B = bookIn book h} (start .pre .1 .0) _ (start .pre .1 .1) _ (rw (c .before .before .before .before .before .contracts-at .ensures) at (c .before .before .before .contract-row .ensures)), c .before .before .accounts .ensures .few)))
+    (part-laid book h _ e (start .pre .0), (part-sound book h _ e (start .pre .1 .0 .sound), (paid-in {B = bookIn book h} (start .pre .1 .0) _ (start .pre .1 .1) _ (rw (c .before .before .before .before .before .contracts-at .ensures) at (c .before .before .before .contract-row .ensures)), c .before .before .accounts .ensures .few)))
 
 returns : tie.Need-returns
 returns c =

@@ -1,6 +1,6 @@
 -- `settlement::settle` meets its contract. No row names the account, or its own energy is what its lines rest on. Assumes nothing.
 use Rattle.book.specs.Book.{bookIn}
-use Rattle.book.proofs.Room.{energies-room}
+use Rattle.accounts.proofs.Parts.{part-laid, part-sound, part-held}
 use Rattle.settlement.proofs.Ends.{owned-known, end-11}
 use borrow.Author.Needs.{needs}
 use Rattle.settlement.proofs.settle.Statement.{statement}
@@ -8,9 +8,6 @@ use Rattle.settlement.proofs.settle.Tie as tie
 
 units-at-requires : tie.Need-units-at-requires
 units-at-requires c κs = search needs
-
-energies-at-requires : tie.Need-energies-at-requires
-energies-at-requires c κs = search needs
 
 sub-own-energy : tie.Need-sub-own-energy
 sub-own-energy c = search needs
@@ -21,11 +18,13 @@ part-own-energy-start c = search needs
 part-own-energy-end : tie.Need-part-own-energy-end
 part-own-energy-end c = search needs
 
-cast-own-energy : tie.Need-cast-own-energy
-cast-own-energy c = search needs
+part-of-requires : tie.Need-part-of-requires
+part-of-requires c κs = search needs
 
 own-energy-requires : tie.Need-own-energy-requires
-own-energy-requires c κs = ((energies-room _ _ (c .before .before .before .before .before .before .pre .0) _ (c .before .before .energies-at .ensures), c .before .before .before .before .before .before .pre .0 .few .energies), (rw (c .before .before .energies-at .ensures) (c .before .before .before .before .before .before .pre .1 .sound .fields .energies), rw (c .before .before .energies-at .ensures) (record { keep = c .before .before .before .before .before .before .pre .1 .sound .ordered .energies .first })))
+own-energy-requires c κs =
+    let s = c .before .before .before .before .before in
+    (part-laid (s .args .book .now) (s .args .h) _ (c .part-of .ensures) (s .pre .0), part-sound (s .args .book .now) (s .args .h) _ (c .part-of .ensures) (s .pre .1 .sound))
 
 sub-is-known : tie.Need-sub-is-known
 sub-is-known c = search needs
@@ -43,10 +42,18 @@ is-known-requires : tie.Need-is-known-requires
 is-known-requires c κs = search needs
 
 returns : tie.Need-returns
-returns c = end-11 (bookIn (c .before .before .before .before .before .before .before .before .before .before .before .before .args .book .now) (c .before .before .before .before .before .before .before .before .before .before .before .before .args .h)) _ (c .before .before .before .before .before .before .before .before .before .before .before .before .pre .1) (rw (c .before .before .before .before .before .before .before .before .energies-at .ensures) at (c .before .before .before .before .before .own-energy .ensures)) (rw (c .before .before .before .before .before .before .before .before .before .units-at .ensures) at (c .before .is-known .ensures)) _ (c .if1 .taken)
+returns c =
+    let o = c .before .before .before .before .before in
+    let u = o .before .before .before in
+    let s = u .before .before .before in
+    end-11 (bookIn (s .args .book .now) (s .args .h)) _ (s .pre .1) (part-held (s .args .book .now) (s .args .h) _ (o .before .part-of .ensures) _ (o .own-energy .ensures)) (rw (u .units-at .ensures) at (c .before .is-known .ensures)) _ (c .if1 .taken)
 
 test-and-write-requires : tie.Need-test-and-write-requires
-test-and-write-requires c κs = (c .before .before .before .before .before .before .before .before .before .before .before .before .before .pre .0, (c .before .before .before .before .before .before .before .before .before .before .before .before .before .pre .1, owned-known (bookIn (c .before .before .before .before .before .before .before .before .before .before .before .before .before .args .book .now) (c .before .before .before .before .before .before .before .before .before .before .before .before .before .args .h)) _ (c .before .before .before .before .before .before .before .before .before .before .before .before .before .pre .1) (rw (c .before .before .before .before .before .before .before .before .before .energies-at .ensures) at (c .before .before .before .before .before .before .own-energy .ensures)) (rw (c .before .before .before .before .before .before .before .before .before .before .units-at .ensures) at (c .before .before .is-known .ensures)) (c .before .if1 .left)))
+test-and-write-requires c κs =
+    let o = c .before .before .before .before .before .before in
+    let u = o .before .before .before in
+    let s = u .before .before .before in
+    (s .pre .0, (s .pre .1, owned-known (bookIn (s .args .book .now) (s .args .h)) _ (s .pre .1) (part-held (s .args .book .now) (s .args .h) _ (o .before .part-of .ensures) _ (o .own-energy .ensures)) (rw (u .units-at .ensures) at (c .before .before .is-known .ensures)) (c .before .if1 .left)))
 
 same-length : tie.Need-same-length
 same-length c = search needs
@@ -59,11 +66,10 @@ settle-spec =
     tie.close
     (tie.spec
     units-at-requires
-    energies-at-requires
     sub-own-energy
     part-own-energy-start
     part-own-energy-end
-    cast-own-energy
+    part-of-requires
     own-energy-requires
     sub-is-known
     part-is-known-start

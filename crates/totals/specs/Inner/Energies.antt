@@ -28,7 +28,7 @@ pub record PartLaid (s : List ℕ) (p : EnergyPart) : Type 0 where
   pub rows : p .from + p .rows * 24 ≤ length s
 
 -- they keep checks 5, 6 and 9
-pub record Sound (E : Energies) : Type 0 where
+pub record EnergiesSound (E : Energies) : Type 0 where
   pub few : E .rows ≤ 1024
   pub entries : (g : ℕ) → g < 5 → EntryRule (E .entry g)
   pub rules : (i : ℕ) → i < E .rows → EnergyRule (E .row i)

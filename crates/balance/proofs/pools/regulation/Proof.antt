@@ -57,7 +57,7 @@ over-regions-requires c κs =
     let start = turn .before .before .before .before .before .before .before .before .before in
     let e = turn .before .part-of .ensures in
     let rule = constraint-rule (start .pre .1 .0) _ (start .pre .1 .1 .0) in
-    (part-laid (start .args .book .now) (start .args .h) _ e (start .pre .0), (part-sound (start .args .book .now) (start .args .h) _ e (start .pre .1 .0), (turn .divisor .ensures, (rw (turn .divisor .ensures) (constraint-divides (start .pre .1 .0) _ (start .pre .1 .1 .0)), recovery-small _ _ rule (turn .before .before .before .before .before .before .before .recovery-of .ensures) .credit))))
+    (part-laid (start .args .book .now) (start .args .h) _ e (start .pre .0), (part-sound (start .args .book .now) (start .args .h) _ e (start .pre .1 .0 .sound), (turn .divisor .ensures, (rw (turn .divisor .ensures) (constraint-divides (start .pre .1 .0) _ (start .pre .1 .1 .0)), recovery-small _ _ rule (turn .before .before .before .before .before .before .before .recovery-of .ensures) .credit))))
 
 over-regions-requires-2 : tie.Need-over-regions-requires-2
 over-regions-requires-2 c κs =
@@ -65,7 +65,7 @@ over-regions-requires-2 c κs =
     let start = turn .before .before .before .before .before .before .before .before .before in
     let e = turn .before .part-of .ensures in
     let rule = constraint-rule (start .pre .1 .0) _ (start .pre .1 .1 .0) in
-    (part-laid (start .args .book .now) (start .args .h) _ e (start .pre .0), (part-sound (start .args .book .now) (start .args .h) _ e (start .pre .1 .0), (turn .divisor .ensures, (rw (turn .divisor .ensures) (constraint-divides (start .pre .1 .0) _ (start .pre .1 .1 .0)), recovery-small _ _ rule (turn .before .before .before .before .before .before .before .recovery-of .ensures) .charge))))
+    (part-laid (start .args .book .now) (start .args .h) _ e (start .pre .0), (part-sound (start .args .book .now) (start .args .h) _ e (start .pre .1 .0 .sound), (turn .divisor .ensures, (rw (turn .divisor .ensures) (constraint-divides (start .pre .1 .0) _ (start .pre .1 .1 .0)), recovery-small _ _ rule (turn .before .before .before .before .before .before .before .recovery-of .ensures) .charge))))
 
 signed-requires : tie.Need-signed-requires
 signed-requires c κs = let start = c .before .before .before .before .before .before .before .before .before .before .before in omega (arith, recovery-small _ _ (constraint-rule (start .pre .1 .0) _ (start .pre .1 .1 .0)) (c .before .before .before .before .before .before .before .before .before .recovery-of .ensures) .amount)
