@@ -1,9 +1,9 @@
 -- Lines counted without being made: a unit row's, a run's, a constraint's, a contract's, and all. Assumes nothing.
-use Prim.Native.Nat.{ℕ, zero, suc, _+_, _≤_, _<_}
-use mathlib.Core.Path.{_≡_, refl, sym, ap, ap₂, _∙_}
+use Prim.Native.Nat.{ℕ, _+_, _≤_, _<_}
+use mathlib.Core.Path.{_≡_, sym, ap, ap₂, _∙_}
 use mathlib.Core.Bool.{cond}
 use mathlib.Core.List.{List, []}
-use mathlib.Core.Logic.{_⊎_, inl, inr, ⊎-elim}
+use mathlib.Core.Logic.{⊎-elim}
 use borrow.Author.Tests.{eq-eqb, ne-eqb}
 use lib.Dec.{eqb}
 use lib.ListN.{length, length-append}
@@ -12,7 +12,7 @@ use native.Mathlib.Nat.{eq-or-lt-of-le}
 use Rattle.ground.specs.Bytes.{partFrom}
 use Rattle.sections.specs.Total.{total, keyed}
 use Rattle.sections.specs.Inner.Walk.{Under, Sought}
-use Rattle.sections.proofs.Cases.{cond-same}
+use Rattle.sections.proofs.Cases.{is-zero, cond-same}
 use Rattle.sections.proofs.Walk.{under-later}
 use Rattle.sections.proofs.Total.{total-none, total-more, total-all, total-zero, total-same, total-plus, total-swap, total-only, total-five, keyed-hit, keyed-miss}
 use Rattle.sections.proofs.Search.{lt-or-ge}
@@ -33,14 +33,10 @@ use Rattle.book.specs.declared.header.Header.{Header}
 use Rattle.lines.specs.Lines.{regionLines}
 use Rattle.groups.specs.Inner.Each.{eachOf, regionEach}
 use Rattle.lines.specs.Inner.Walks.{ownLines, unitLinesAt, conLines, conLinesAt, contractLinesAt, bookLines}
-use Rattle.groups.proofs.Numbering.{choice-length, unit-length, rest-length, region-length}
+use Rattle.groups.proofs.Numbering.{choice-length, unit-length, rest-length, region-length, single}
 use Rattle.walk.proofs.Order.{rises-once}
 use Rattle.count.specs.Inner.Counts.{countIn, rowCount, UnitsCounted, BareOf, Countable, MetAt, ConstraintsCounted, ContractCounted, ContractsCounted, BookCounted}
 use Rattle.count.specs.declared.Met.{Met}
-
-is-zero : (n : ℕ) → (n ≡ 0) ⊎ (n ≡ 0 → ⊥)
-is-zero zero = inl refl
-is-zero (suc n) = inr (λ (e : suc n ≡ 0). omega arith)
 
 -- ---- a unit row
 
@@ -70,15 +66,11 @@ module _ (unit : ℕ → UnitRow) (m account : ℕ) (r : Constraint) where
   rows-length : length (joined (unitLinesAt unit account r (poolsOf r)) m) ≡ total (countIn unit account r) m
   rows-length = joined-length (unitLinesAt unit account r (poolsOf r)) m ∙ total-same _ _ m (λ u l. row-length unit account r u)
 
-  single : r .mode ≡ 0 → 1 ≡ eachOf r
-  unfolding eachOf
-  single z = rw (ne-eqb (r .mode) 1 (λ (q : r .mode ≡ 1). omega arith))
-
   con-length : BareOf unit m r → (o t : ℕ) → length (conLines unit m account r o t) ≡ total (countIn unit account r) m + eachOf r
   unfolding conLines
   con-length bare o t =
       ⊎-elim
-      (λ (z : r .mode ≡ 0). rw (eq-eqb _ _ z) (ap₂ _+_ (total-zero (countIn unit account r) m (λ u l. miss unit account r u (bare z u l))) (single z)))
+      (λ (z : r .mode ≡ 0). rw (eq-eqb _ _ z) (ap₂ _+_ (total-zero (countIn unit account r) m (λ u l. miss unit account r u (bare z u l))) (single r z)))
       (λ (d : r .mode ≡ 0 → ⊥). rw (ne-eqb _ _ d, length-append) (ap₂ _+_ rows-length (rest-length r (residualPools r (poolsOf r)) o t)))
       (is-zero (r .mode))
 

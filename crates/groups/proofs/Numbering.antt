@@ -36,6 +36,11 @@ pub rest-length : (r : Constraint) (x : Residual) (o t : ℕ) → length (restLi
 unfolding restLines eachOf
 rest-length r x o t = choice-length (eqb (r .mode) 1) _ _
 
+-- and of mode 0 there is one
+pub single : (r : Constraint) → r .mode ≡ 0 → 1 ≡ eachOf r
+unfolding eachOf
+single r z = rw (ne-eqb (r .mode) 1 (λ (q : r .mode ≡ 1). omega arith))
+
 pub region-length : (entry own : ℕ → Entry) (k : Contract) (g : ℕ) → length (regionLines entry own k g) ≡ regionEach (factorOf (k .factors) g)
 unfolding regionLines
 region-length entry own k g = choice-length (eqb (factorOf (k .factors) g) 0) _ _

@@ -1,14 +1,14 @@
 -- The line of a number among all lines of a constraint: one of its unit rows', or one of the others. Assumes nothing.
-use Prim.Native.Nat.{ℕ, zero, suc, _-_, _≤_, _<_}
-use mathlib.Core.Path.{_≡_, refl, sym, ap, _∙_}
+use Prim.Native.Nat.{ℕ, _-_, _≤_, _<_}
+use mathlib.Core.Path.{_≡_, ap, _∙_}
 use mathlib.Core.List.{List, [], _∷_, _++_}
-use mathlib.Core.Logic.{_⊎_, inl, inr, ⊎-elim}
+use mathlib.Core.Logic.{⊎-elim}
 use borrow.Author.Tests.{eq-eqb, ne-eqb}
 use lib.ListN.{length}
 use native.Mathlib.Omega.{arith}
 use Rattle.ground.specs.Nth.{found, past, nth}
 use Rattle.ground.proofs.Nth.{nth-front, nth-behind, nth-past}
-use Rattle.sections.specs.Inner.Walk.{Past}
+use Rattle.sections.proofs.Cases.{is-zero}
 use Rattle.records.specs.declared.rows.Constraint.{Constraint}
 use Rattle.records.specs.declared.rows.UnitRow.{UnitRow}
 use Rattle.factors.specs.Naming.{keyOf}
@@ -19,38 +19,31 @@ use Rattle.statement.specs.declared.Line.{Line}
 use Rattle.lines.specs.Lines.{contingencyLine, restLines}
 use Rattle.groups.specs.Inner.Each.{eachOf}
 use Rattle.lines.specs.Inner.Walks.{unitLinesAt, conLines}
-use Rattle.groups.proofs.Numbering.{rest-length}
+use Rattle.groups.proofs.Numbering.{rest-length, single}
 use Rattle.lines.proofs.UnitRows.{other-row}
-use Rattle.lookup.specs.Inner.Sought.{otherLines, Bare, Answers, SoughtIn}
+use Rattle.lookup.specs.ByNumber.{numberedIn}
+use Rattle.lookup.specs.Inner.Sought.{otherLines, Bare, SoughtIn}
 use Rattle.lookup.specs.declared.Numbered.{Numbered}
 use Rattle.lookup.specs.declared.Numbered.the-variants as numbered
 use Rattle.lookup.specs.declared.constraint.Sought.{Sought}
 use Rattle.lookup.specs.declared.constraint.Sought.the-variants as sought
-
-is-zero : (n : ℕ) → (n ≡ 0) ⊎ (n ≡ 0 → ⊥)
-is-zero zero = inl refl
-is-zero (suc n) = inr (λ (e : suc n ≡ 0). omega arith)
+use Rattle.lookup.proofs.Answered.{past-told, line-there, past-there}
 
 -- ---- the lines besides those of unit rows
 
 module _ (r : Constraint) (o t : ℕ) where
-  single : r .mode ≡ 0 → 1 ≡ eachOf r
-  unfolding eachOf
-  single z = rw (ne-eqb (r .mode) 1 (λ (q : r .mode ≡ 1). omega arith))
-
   pub other-length : length (otherLines r o t) ≡ eachOf r
   unfolding otherLines
   other-length =
       ⊎-elim
-      (λ (z : r .mode ≡ 0). rw (eq-eqb _ _ z) (single z))
+      (λ (z : r .mode ≡ 0). rw (eq-eqb _ _ z) (single r z))
       (λ (d : r .mode ≡ 0 → ⊥). rw (ne-eqb _ _ d) (rest-length r (residualPools r (poolsOf r)) o t))
       (is-zero (r .mode))
 
-  pub past-others : (i : ℕ) {k : ℕ} → k ≡ eachOf r → k ≤ i → Answers (otherLines r o t) i (numbered.Past (i - k))
-  unfolding Answers
+  pub past-others : (i : ℕ) {k : ℕ} → k ≡ eachOf r → k ≤ i → numbered.Past (i - k) ≡ numberedIn (otherLines r o t) i
   past-others i {k} e l =
       let m : i - length (otherLines r o t) ≡ i - k = omega (arith, other-length) in
-      nth-past (otherLines r o t) i (omega (arith, other-length)) ∙ ap past m
+      past-told (otherLines r o t) i (nth-past (otherLines r o t) i (omega (arith, other-length)) ∙ ap past m)
 
   module _ (i : ℕ) (l : i < length (otherLines r o t)) where
     pub other-plain : {x : Line} → r .mode ≡ 0 → x ≡ contingencyLine r o t → nth (otherLines r o t) i ≡ found x
@@ -94,13 +87,13 @@ module _ (unit : ℕ → UnitRow) (m account : ℕ) (r : Constraint) (o t number
       unfolding SoughtIn
       behind = rw parts (nth-behind unitPart (otherLines r o t) number ((rw e at h) .1))
 
-      module _ {y : Numbered} (g : Answers (otherLines r o t) left y) where
+      module _ {y : Numbered} (g : y ≡ numberedIn (otherLines r o t) left) where
         -- one of the others
         pub from-others : {l : Line} → y ≡ numbered.Line l → SoughtIn unit m r (conLines unit m account r o t) number (sought.Line l)
-        unfolding SoughtIn Answers
-        from-others f = behind ∙ (rw f at g)
+        unfolding SoughtIn
+        from-others f = behind ∙ line-there (otherLines r o t) left g f
 
         -- or none
         pub from-none : {rest : ℕ} → y ≡ numbered.Past rest → SoughtIn unit m r (conLines unit m account r o t) number (sought.Past next rest)
-        unfolding SoughtIn Answers
-        from-none f = ((rw e at h) .0, behind ∙ (rw f at g))
+        unfolding SoughtIn
+        from-none f = ((rw e at h) .0, behind ∙ past-there (otherLines r o t) left g f)

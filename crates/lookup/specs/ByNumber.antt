@@ -1,10 +1,10 @@
--- One line of an account by its number, from 0.
+-- One of an account's lines by its number, from 0.
 use Prim.Native.Nat.{ℕ}
 use mathlib.Core.List.{List}
 use Rattle.ground.specs.Nth.{Nth, found, past, nth}
 use Rattle.statement.specs.declared.Line.{Line}
 use Rattle.lookup.specs.declared.Numbered.{Numbered}
 use Rattle.lookup.specs.declared.Numbered.the-variants as numbered
 
 -- a line; or there are fewer, and what the number has beyond the last
 unfoldable pub answerOf : Nth Line → Numbered

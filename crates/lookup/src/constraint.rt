@@ -17,7 +17,8 @@ ghost use Rattle.amounts.specs.Pools.{poolsOf};
 ghost use Rattle.accounts.specs.Rows.{joined};
 ghost use Rattle.lines.specs.Lines.{unitLines};
 ghost use Rattle.lines.specs.Inner.Walks.{unitLinesAt, conLines};
-ghost use Rattle.lookup.specs.Inner.Sought.{otherLines, Rests, Bare, Answers, SoughtIn};
+ghost use Rattle.lookup.specs.ByNumber.{numberedIn};
+ghost use Rattle.lookup.specs.Inner.Sought.{otherLines, Rests, Bare, SoughtIn};
 use crate::Numbered;
 use amounts::pools;
 use lines::make;
@@ -105,7 +106,7 @@ fn other_line(regions: &[u8], r: Constraint, own: Totals, i: usize) -> Line
 fn others(regions: &[u8], r: Constraint, own: Totals, number: usize) -> Numbered
     requires { ⌜ 60 ≤ length (now regions) ⌝ }
     requires { ⌜ Rests (entryRow (now regions)) r own ⌝ }
-    ensures { λ x. ⌜ Answers (otherLines r (overRegions (entryOf own) r) (overRegions (entryRow (now (regions .entry))) r)) number x ⌝ }
+    ensures { λ x. ⌜ x ≡ numberedIn (otherLines r (overRegions (entryOf own) r) (overRegions (entryRow (now (regions .entry))) r)) number ⌝ }
 {
     let lines = groups::lines_each(r);
     if number < lines {

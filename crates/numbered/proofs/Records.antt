@@ -23,12 +23,13 @@ use Rattle.statement.specs.declared.Line.{Line}
 use Rattle.lines.specs.Lines.{regionLines}
 use Rattle.lines.specs.Inner.Walks.{conLines, conLinesAt, contractLinesAt, bookLines, Ready}
 use Rattle.lines.proofs.Parts.{conPart, paidPart, both-parts}
-use Rattle.numbered.specs.Numbered.{answerOf, numberedIn}
-use Rattle.lookup.specs.Inner.Sought.{Rests, Bare, Answers, SoughtIn}
+use Rattle.lookup.specs.ByNumber.{answerOf, numberedIn}
+use Rattle.lookup.specs.Inner.Sought.{Rests, Bare, SoughtIn}
 use Rattle.lookup.specs.declared.Numbered.{Numbered}
 use Rattle.lookup.specs.declared.Numbered.the-variants as numbered
 use Rattle.lookup.specs.declared.constraint.Sought.{Sought}
 use Rattle.lookup.specs.declared.constraint.Sought.the-variants as sought
+use Rattle.lookup.proofs.Answered.{line-told, line-there, past-there}
 use Rattle.lookup.proofs.Joined.{pass-more, found-in}
 
 -- ---- what constraint j rests on
@@ -43,9 +44,9 @@ module _ (entry : ℕ → Entry) (con : ℕ → Constraint) (n : ℕ) (unit : �
 -- ---- constraints; the first j are passed, r is constraint j, and x is what was found in it
 
 module _ (entry : ℕ → Entry) (con : ℕ → Constraint) (unit : ℕ → UnitRow) (m account : ℕ) (own : Totals) (number j : ℕ) {left : ℕ} (h : nth (joined (conLinesAt entry con unit m account own) j) number ≡ past left) {r : Constraint} (e : r ≡ con j) {x : Sought} (g : SoughtIn unit m r (conLines unit m account r (overRegions (entryOf own) r) (overRegions entry r)) left x) where
-  pub con-found : (n : ℕ) {l : Line} → j < n → x ≡ sought.Line l → Answers (joined (conLinesAt entry con unit m account own) n) number (numbered.Line l)
-  unfolding Answers SoughtIn conLinesAt
-  con-found n b f = found-in (conLinesAt entry con unit m account own) number j h n b (rw e at (rw f at g))
+  pub con-found : (n : ℕ) {l : Line} → j < n → x ≡ sought.Line l → numbered.Line l ≡ numberedIn (joined (conLinesAt entry con unit m account own) n) number
+  unfolding SoughtIn conLinesAt
+  con-found n b f = line-told _ number (found-in (conLinesAt entry con unit m account own) number j h n b (rw e at (rw f at g)))
 
   pub con-passed : {next rest : ℕ} → x ≡ sought.Past next rest → nth (joined (conLinesAt entry con unit m account own) (j + 1)) number ≡ past rest
   unfolding SoughtIn conLinesAt
@@ -57,35 +58,27 @@ module _ (entry : ℕ → Entry) (con : ℕ → Constraint) (unit : ℕ → Unit
 
 -- ---- contracts, likewise
 
-module _ (entry own : ℕ → Entry) (contract : ℕ → Contract) (number i : ℕ) {left : ℕ} (h : nth (joined (contractLinesAt entry own contract) i) number ≡ past left) {k : Contract} (e : k ≡ contract i) {x : Numbered} (g : Answers (joined (regionLines entry own k) 5) left x) where
-  pub paid-found : (n : ℕ) {l : Line} → i < n → x ≡ numbered.Line l → Answers (joined (contractLinesAt entry own contract) n) number (numbered.Line l)
-  unfolding Answers contractLinesAt
-  paid-found n b f = found-in (contractLinesAt entry own contract) number i h n b (rw e at (rw f at g))
+module _ (entry own : ℕ → Entry) (contract : ℕ → Contract) (number i : ℕ) {left : ℕ} (h : nth (joined (contractLinesAt entry own contract) i) number ≡ past left) {k : Contract} (e : k ≡ contract i) {x : Numbered} (g : x ≡ numberedIn (joined (regionLines entry own k) 5) left) where
+  pub paid-found : (n : ℕ) {l : Line} → i < n → x ≡ numbered.Line l → numbered.Line l ≡ numberedIn (joined (contractLinesAt entry own contract) n) number
+  unfolding contractLinesAt
+  paid-found n b f = line-told _ number (found-in (contractLinesAt entry own contract) number i h n b (rw e at (line-there _ left g f)))
 
   pub paid-passed : {rest : ℕ} → x ≡ numbered.Past rest → nth (joined (contractLinesAt entry own contract) (i + 1)) number ≡ past rest
-  unfolding Answers contractLinesAt
-  paid-passed f = pass-more (contractLinesAt entry own contract) number i h (rw e at (rw f at g))
+  unfolding contractLinesAt
+  paid-passed f = pass-more (contractLinesAt entry own contract) number i h (rw e at (past-there _ left g f))
 
 -- ---- all lines
 
--- an answer, as the definition gives it
-told : (ls : List Line) (number : ℕ) (x : Numbered) → Answers ls number x → x ≡ numberedIn ls number
-unfolding Answers numberedIn answerOf
-told ls number (numbered.Line l) h = rw h
-told ls number (numbered.Past left) h = rw h
-
-module _ (b : List ℕ) (h : Header) (account : ℕ) (own : Totals) (u k : ℕ) (e : u ≡ unitsFrom h) (f : k ≡ contractsFrom h) (number : ℕ) {x : Numbered} (g : Answers (conPart b h account own u) number x) where
+module _ (b : List ℕ) (h : Header) (account : ℕ) (own : Totals) (u k : ℕ) (e : u ≡ unitsFrom h) (f : k ≡ contractsFrom h) (number : ℕ) {x : Numbered} (g : x ≡ numberedIn (conPart b h account own u) number) where
   pub line-first : {l : Line} → x ≡ numbered.Line l → numbered.Line l ≡ numberedIn (bookLines (bookIn b h) account own) number
-  unfolding Answers
-  line-first {l} p =
-      told _ number (numbered.Line l)
-      (rw (both-parts b h account own u k e f) (nth-front (conPart b h account own u) (paidPart b h account own k) number (rw p at g)))
+  line-first p =
+      line-told _ number
+      (rw (both-parts b h account own u k e f) (nth-front (conPart b h account own u) (paidPart b h account own k) number (line-there _ number g p)))
 
   module _ {left : ℕ} (p : x ≡ numbered.Past left) where
     behind : nth (bookLines (bookIn b h) account own) number ≡ nth (paidPart b h account own k) left
-    unfolding Answers
-    behind = rw (both-parts b h account own u k e f) (nth-behind (conPart b h account own u) (paidPart b h account own k) number (rw p at g))
+    behind = rw (both-parts b h account own u k e f) (nth-behind (conPart b h account own u) (paidPart b h account own k) number (past-there _ number g p))
 
-    pub line-behind : (y : Numbered) → Answers (paidPart b h account own k) left y → y ≡ numberedIn (bookLines (bookIn b h) account own) number
+    pub line-behind : (y : Numbered) → y ≡ numberedIn (paidPart b h account own k) left → y ≡ numberedIn (bookLines (bookIn b h) account own) number
     unfolding numberedIn
-    line-behind y q = told (paidPart b h account own k) left y q ∙ ap answerOf (sym behind)
+    line-behind y q = q ∙ ap answerOf (sym behind)

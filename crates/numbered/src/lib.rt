@@ -8,8 +8,7 @@ ghost use Rattle.accounts.specs.Rows.{joined};
 ghost use Rattle.book.specs.Book.{bookIn};
 ghost use Rattle.book.specs.Inner.Facts.{Laid};
 ghost use Rattle.lines.specs.Inner.Walks.{conLinesAt, contractLinesAt, bookLines, Ready, ContractSettles, Walkable};
-ghost use Rattle.numbered.specs.Numbered.{numberedIn};
-ghost use Rattle.lookup.specs.Inner.Sought.{Answers};
+ghost use Rattle.lookup.specs.ByNumber.{numberedIn};
 use book::header::Header;
 use lookup::Numbered;
 use lookup::constraint;
@@ -32,7 +31,7 @@ fn in_constraints(
 ) -> Numbered
     requires { ⌜ (60 ≤ length (now regions)) × ((n * 40 ≤ length (now cons)) × (m * 20 ≤ length (now units))) ⌝ }
     requires { ⌜ Ready (entryRow (now regions)) (constraintRow (now cons)) n (unitRow (now units)) m own ⌝ }
-    ensures { λ x. ⌜ Answers (joined (conLinesAt (entryRow (now (regions .entry))) (constraintRow (now (cons .entry))) (unitRow (now (units .entry))) m account own) n) number x ⌝ }
+    ensures { λ x. ⌜ x ≡ numberedIn (joined (conLinesAt (entryRow (now (regions .entry))) (constraintRow (now (cons .entry))) (unitRow (now (units .entry))) m account own) n) number ⌝ }
 {
     let mut left = number;
     let mut row = 0;
@@ -62,7 +61,7 @@ fn in_constraints(
 fn in_contracts(regions: &[u8], contracts: &[u8], n: usize, own: Totals, number: usize) -> Numbered
     requires { ⌜ (60 ≤ length (now regions)) × (n * 36 ≤ length (now contracts)) ⌝ }
     requires { ⌜ ((k : ℕ) → k < n → ContractSettles (entryRow (now regions)) (contractRow (now contracts) k) own) ⌝ }
-    ensures { λ x. ⌜ Answers (joined (contractLinesAt (entryRow (now (regions .entry))) (entryOf own) (contractRow (now (contracts .entry)))) n) number x ⌝ }
+    ensures { λ x. ⌜ x ≡ numberedIn (joined (contractLinesAt (entryRow (now (regions .entry))) (entryOf own) (contractRow (now (contracts .entry)))) n) number ⌝ }
 {
     let mut left = number;
     let mut i = 0;

@@ -1,13 +1,19 @@
--- Small facts that many proofs come to: 0 is not 1, answers that are equal, a choice between equals, and a fact of each of the five regions.
+-- Small facts that many proofs come to: 0 is not 1, a number is 0 or is not, answers that are equal, a choice between equals, and a fact of each of
+-- the five regions.
 -- Assumes nothing.
 use Prim.Native.Nat.{ℕ, zero, suc, _<_}
 use mathlib.Core.Path.{_≡_, refl, sym}
 use mathlib.Core.Bool.{Bool, true, false, cond}
+use mathlib.Core.Logic.{_⊎_, inl, inr}
 use native.Mathlib.Omega.{arith}
 
 -- where constructors that differ are said to be equal, `cc` shows that 0 is 1
 pub zero-one : _≡_ {A = ℕ} 0 1 → ⊥
 zero-one z = omega arith
+
+pub is-zero : (n : ℕ) → (n ≡ 0) ⊎ (n ≡ 0 → ⊥)
+is-zero zero = inl refl
+is-zero (suc n) = inr (λ (e : suc n ≡ 0). omega arith)
 
 -- two answers that are yes where the other is
 pub same-answer : (a b : Bool) → (a ≡ true → b ≡ true) → (b ≡ true → a ≡ true) → a ≡ b

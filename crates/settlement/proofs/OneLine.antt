@@ -8,7 +8,7 @@ use Rattle.accounts.specs.Account.{publicOf, rowsOfAccount}
 use Rattle.statement.specs.declared.Line.{Line}
 use Rattle.lines.specs.Inner.Walks.{bookLines}
 use Rattle.lookup.specs.declared.Numbered.{Numbered}
-use Rattle.numbered.specs.Numbered.{numberedIn}
+use Rattle.lookup.specs.ByNumber.{numberedIn}
 use Rattle.settlement.specs.Settle.{linesOf}
 use Rattle.settlement.specs.Inner.Owned.{Owned}
 

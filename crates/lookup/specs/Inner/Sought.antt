@@ -18,17 +18,10 @@ use Rattle.amounts.specs.Pools.{poolsOf, residualPools}
 use Rattle.statement.specs.declared.Line.{Line}
 use Rattle.lines.specs.Lines.{contingencyLine, restLines}
 use Rattle.lines.specs.Inner.Shared.{Shared}
-use Rattle.lookup.specs.declared.Numbered.{Numbered}
-use Rattle.lookup.specs.declared.Numbered.the-variants as numbered
 use Rattle.lookup.specs.declared.constraint.Sought.{Sought}
 use Rattle.lookup.specs.declared.constraint.Sought.the-variants as sought
 
--- an answer is that of the number among lines ls
-unfoldable pub Answers : List Line → ℕ → Numbered → Type 0
-Answers ls number (numbered.Line l) = nth ls number ≡ found l
-Answers ls number (numbered.Past left) = nth ls number ≡ past left
-
--- the same of lines ls of constraint r, and where they are passed, the search stands behind its unit rows
+-- an answer is that of the number among lines ls of constraint r, and where they are passed, the search stands behind its unit rows
 unfoldable pub SoughtIn : (ℕ → UnitRow) → ℕ → Constraint → List Line → ℕ → Sought → Type 0
 SoughtIn unit m r ls number (sought.Line l) = nth ls number ≡ found l
 SoughtIn unit m r ls number (sought.Past next left) = Past (keyOf unit) m (r .id) next × (nth ls number ≡ past left)

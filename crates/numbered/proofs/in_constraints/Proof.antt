@@ -9,7 +9,7 @@ use Rattle.records.specs.Rows.{entryRow, constraintRow, unitRow}
 use Rattle.factors.specs.Naming.{idOf, keyOf}
 use Rattle.accounts.specs.Rows.{joined}
 use Rattle.lines.specs.Inner.Walks.{conLinesAt}
-use Rattle.lookup.specs.Inner.Sought.{Answers}
+use Rattle.lookup.proofs.Answered.{past-told}
 use Rattle.lookup.proofs.Joined.{pass-none, pass-all}
 use Rattle.numbered.proofs.Records.{rests-at, bare-at, con-found, con-passed, con-next}
 use borrow.Author.Needs.{needs}
@@ -66,8 +66,7 @@ loop-again c =
     (omega arith, (con-passed _ _ _ _ _ _ _ _ h r x (c .before .next .given .1), λ l. con-next _ _ _ _ _ _ _ _ h r x (s .pre .1 .rise) (s .pre .1 .names) (c .before .next .given .1) l))
 
 returns-2 : tie.Need-returns-2 Inv-loop μ-loop
-unfolding Answers
-returns-2 c = pass-all _ _ _ (c .before .loop .inv .1 .0) _ (c .before .loop .inv .0) (c .loop-test .left)
+returns-2 c = past-told _ _ (pass-all _ _ _ (c .before .loop .inv .1 .0) _ (c .before .loop .inv .0) (c .loop-test .left))
 
 pub in-constraints-spec : {M : Type 1} → statement M
 in-constraints-spec =

@@ -7,7 +7,7 @@ use Rattle.records.specs.Rows.{entryRow, contractRow}
 use Rattle.totals.specs.Inner.Totals.{entryOf}
 use Rattle.accounts.specs.Rows.{joined}
 use Rattle.lines.specs.Inner.Walks.{contractLinesAt}
-use Rattle.lookup.specs.Inner.Sought.{Answers}
+use Rattle.lookup.proofs.Answered.{past-told}
 use Rattle.lookup.proofs.Joined.{pass-none, pass-all}
 use Rattle.numbered.proofs.Records.{paid-found, paid-passed}
 use borrow.Author.Needs.{needs}
@@ -48,8 +48,7 @@ loop-again : tie.Need-loop-again Inv-loop μ-loop
 loop-again c = (omega arith, paid-passed _ _ _ _ _ (c .before .before .before .before .before .before .loop .inv .1) (c .before .before .before .before .contract-row .ensures) (c .before .before .before .contract-line .ensures) (c .before .rest .given .1))
 
 returns-2 : tie.Need-returns-2 Inv-loop μ-loop
-unfolding Answers
-returns-2 c = pass-all _ _ _ (c .before .loop .inv .1) _ (c .before .loop .inv .0) (c .loop-test .left)
+returns-2 c = past-told _ _ (pass-all _ _ _ (c .before .loop .inv .1) _ (c .before .loop .inv .0) (c .loop-test .left))
 
 pub in-contracts-spec : {M : Type 1} → statement M
 in-contracts-spec =

@@ -3,7 +3,7 @@ use native.Mathlib.Omega.{arith}
 use Rattle.records.specs.Rows.{entryRow}
 use Rattle.totals.specs.Divisors.{overRegions}
 use Rattle.totals.specs.Inner.Totals.{entryOf}
-use Rattle.lookup.specs.Inner.Sought.{Answers}
+use Rattle.lookup.proofs.Answered.{line-told}
 use Rattle.lookup.proofs.OneConstraint.{other-length, past-others}
 use borrow.Author.Needs.{needs}
 use Rattle.lookup.proofs.constraint.others.Statement.{statement}
@@ -16,8 +16,7 @@ other-line-requires : tie.Need-other-line-requires
 other-line-requires c κs = let s = c .before .before .before in (s .pre .0, (s .pre .1, omega (arith, c .if1 .taken, c .before .lines-each .ensures .0, other-length (s .args .r) (overRegions (entryOf (s .args .own)) (s .args .r)) (overRegions (entryRow (s .args .regions .now)) (s .args .r)))))
 
 returns : tie.Need-returns
-unfolding Answers
-returns c = c .other-line .ensures
+returns c = line-told _ _ (c .other-line .ensures)
 
 returns-2 : tie.Need-returns-2
 returns-2 c = past-others _ _ _ _ (c .before .lines-each .ensures .0) (c .if1 .left)

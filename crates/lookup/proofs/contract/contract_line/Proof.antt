@@ -8,7 +8,7 @@ use Rattle.totals.specs.Inner.Totals.{entryOf}
 use Rattle.accounts.specs.Rows.{joined}
 use Rattle.lines.specs.Lines.{regionLines}
 use Rattle.groups.proofs.Numbering.{region-length}
-use Rattle.lookup.specs.Inner.Sought.{Answers}
+use Rattle.lookup.proofs.Answered.{line-told, past-told}
 use Rattle.lookup.proofs.Joined.{pass-none, pass-length, pass-all, found-in}
 use borrow.Author.Needs.{needs}
 use Rattle.lookup.proofs.contract.contract_line.Statement.{statement}
@@ -36,8 +36,7 @@ region-line-requires : tie.Need-region-line-requires Inv-loop μ-loop
 region-line-requires c κs = let s = c .before .before .before .before .before .before in ((s .pre .0, c .before .before .loop-test .taken), (s .pre .1, omega (arith, c .before .region-count .ensures .0, region-length (entryRow (s .args .regions .now)) (entryOf (s .args .own)) (s .args .k) (c .before .before .before .loop .g))))
 
 returns : tie.Need-returns Inv-loop μ-loop
-unfolding Answers
-returns c = found-in _ _ _ (c .before .before .before .before .loop .inv .1) _ (c .before .before .before .loop-test .taken) (c .region-line .ensures)
+returns c = line-told _ _ (found-in _ _ _ (c .before .before .before .before .loop .inv .1) _ (c .before .before .before .loop-test .taken) (c .region-line .ensures))
 
 add-g : tie.Need-add-g Inv-loop μ-loop
 add-g c = omega arith
@@ -49,8 +48,7 @@ loop-again : tie.Need-loop-again Inv-loop μ-loop
 loop-again c = (omega arith, pass-length _ _ _ (c .before .before .before .loop .inv .1) (c .before .region-count .ensures .0 ∙ sym (region-length _ _ _ _)) (c .if1 .left))
 
 returns-2 : tie.Need-returns-2 Inv-loop μ-loop
-unfolding Answers
-returns-2 c = pass-all _ _ _ (c .before .loop .inv .1) _ (c .before .loop .inv .0) (c .loop-test .left)
+returns-2 c = past-told _ _ (pass-all _ _ _ (c .before .loop .inv .1) _ (c .before .loop .inv .0) (c .loop-test .left))
 
 pub contract-line-spec : {M : Type 1} → statement M
 contract-line-spec =
