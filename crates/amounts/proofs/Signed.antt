@@ -1,12 +1,12 @@
 -- What is credited less what is charged, where one of the two is nothing: a rounded share of one side, with its sign. (The guide's signed
 -- products stand in the crate guide.) Assumes nothing.
 use Prim.Native.Nat.{ℕ, _+_, _*_, _≤_}
-use mathlib.Core.Path.{_≡_, refl, sym, subst, ap, _∙_}
+use mathlib.Core.Path.{_≡_, refl, sym, subst, ap, ap₂, _∙_}
 use mathlib.Core.Bool.{Bool, true, false, _||_}
 use borrow.Author.Tests.{eqb-true}
 use lib.Dec.{T, eqb}
 use lib.IntN.{pos, negℤ, +ℤ-idl, +ℤ-idr}
-use native.Mathlib.Nat.{mul-zero, zero-mul, zero-add, add-zero}
+use native.Mathlib.Nat.{mul-comm, mul-zero, zero-mul, zero-add, add-zero}
 use native.Mathlib.Omega.{arith}
 use Rattle.numbers.specs.Round.{roundN}
 use Rattle.numbers.specs.Sign.{signed, less}
@@ -56,3 +56,11 @@ side-shared credit charge own total t = by (eqb credit 0) refl (eqb charge 0) re
     by true e y f t = rw (eqb-true credit 0 e, zero-add) (sym (none-less (charge * own) (0 * own) total (zero-mul own)))
     by false e true f t = rw (eqb-true charge 0 f, add-zero) (sym (less-none (credit * own) (0 * own) total (zero-mul own)))
     by false e false f t = absurd (subst T (sym t) tt)
+
+-- the same of a factor, by which a pool is multiplied from the other side
+pub side-factored : (pool above below : ℕ) → (eqb above 0 || eqb below 0) ≡ true → signed (eqb above 0) (roundN (pool * (above + below)) 1_000_000) ≡ byFactor pool above below
+unfolding byFactor byEnergy
+side-factored pool above below t =
+    ap (λ (n : ℕ). signed (eqb above 0) (roundN n 1_000_000)) (mul-comm pool (above + below))
+    ∙ side-shared above below pool 1_000_000 t
+    ∙ ap₂ (λ (m n : ℕ). less (roundN m 1_000_000) (roundN n 1_000_000)) (mul-comm above pool) (mul-comm below pool)

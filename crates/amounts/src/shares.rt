@@ -25,11 +25,14 @@ pub fn net(credit: u64, charge: u64) -> i64
     sign::plus(sign::signed(false, credit), sign::signed(true, charge))
 }
 
-// A unit's part of a pool: a positive factor credits, a negative one charges.
+// A unit's part of a pool: a positive factor credits, a negative one charges. Every unit row's factor has one side, and is then rounded once.
 pub fn by_factor(pool: u64, above: u32, below: u32) -> i64
     requires { ⌜ (pool ≤ moneyLimit) × ((above ≤ million) × (below ≤ million)) ⌝ }
     ensures { λ r. ⌜ r ≡ byFactor pool above below ⌝ }
 {
+    if (above == 0) | (below == 0) {
+        return sign::signed(above == 0, share(pool, (above + below) as u64, 1_000_000));
+    }
     net(
         share(pool, above as u64, 1_000_000),
         share(pool, below as u64, 1_000_000),

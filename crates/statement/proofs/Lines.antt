@@ -33,7 +33,7 @@ pub statement-length : (h : Heading) (ls : List Line) → length (statementBytes
 unfolding statementBytes
 statement-length h ls = rw (length-append, heading-length h, lines-length ls)
 
--- ---- a line's first 8 bytes, as one number
+-- ---- a line's first 8 bytes, and its next 8, each as one number
 
 one-byte : (x : ℕ) → x < 256 → bytesOf 1 x ≡ x ∷ []
 one-byte x h = rw (mod-eq-of-lt h)
@@ -49,6 +49,13 @@ names-bytes id p r h k l =
     ap (bytesOf 8) e
     ∙ bytes-above 4 4 id (p + 256 * (r + 256 * 0)) h
     ∙ ap (λ (l : List ℕ). bytesOf 4 id ++ l) (byte-above 3 p (r + 256 * 0) k ∙ ap (λ (l : List ℕ). p ∷ l) (byte-above 2 r 0 l))
+
+-- the next 8: a unit, and nothing above it
+pub unit-bytes : (u : ℕ) → u < 2 ^ 32 → le64 u ≡ le32 u ++ le32 0
+unfolding le32 le64
+unit-bytes u h =
+    let e : u ≡ u + 256 ^ 4 * 0 = omega arith in
+    ap (bytesOf 8) e ∙ bytes-above 4 4 u 0 h
 
 -- ---- lines joined to lines
 

@@ -90,14 +90,21 @@ fn put_names(buf: &mut [u8], at: usize, id: u32, part: u8, regions: u8)
     );
 }
 
+// The next 8 bytes: the unit, and the reserved bytes. Likewise one number.
+fn put_unit(buf: &mut [u8], at: usize, unit: u32)
+    requires { ⌜ at + 8 ≤ length (now buf) ⌝ }
+    ensures { λ _. ⌜ now (buf .exit) ≡ put (now (buf .entry)) at (le32 unit ++ le32 0) ⌝ }
+{
+    write::put_u64(buf, at, unit as u64);
+}
+
 // A line, at a place of the buffer.
 pub fn put_line(buf: &mut [u8], at: usize, line: Line) -> usize
     requires { ⌜ at + 24 ≤ length (now buf) ⌝ }
     ensures { λ r. ⌜ Wrote (now (buf .entry)) at (lineBytes line) (now (buf .exit)) r ⌝ }
 {
     put_names(buf, at, line.id, line.part, line.regions);
-    write::put_u32(buf, at + 8, line.unit);
-    write::put_u32(buf, at + 12, 0);
+    put_unit(buf, at + 8, line.unit);
     write::put_i64(buf, at + 16, line.amount);
     at + 24
 }

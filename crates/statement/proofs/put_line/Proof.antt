@@ -1,4 +1,4 @@
--- `statement::put_line` meets its contract: four puts end to end make the line's 24 bytes; the amount fits, so its bits are its own.
+-- `statement::put_line` meets its contract: three puts end to end make the line's 24 bytes; the amount fits, so its bits are its own.
 -- Assumes nothing.
 use mathlib.Core.Path.{refl}
 use mir.Syntax.{w64}
@@ -13,17 +13,11 @@ use Rattle.statement.proofs.put_line.Tie as tie
 put-names-requires : tie.Need-put-names-requires
 put-names-requires c κs = search needs
 
-add-put-u32 : tie.Need-add-put-u32
-add-put-u32 c = search needs
+add-put-unit : tie.Need-add-put-unit
+add-put-unit c = search needs
 
-put-u32-requires : tie.Need-put-u32-requires
-put-u32-requires c κs = search needs
-
-add-put-u32-2 : tie.Need-add-put-u32-2
-add-put-u32-2 c = search needs
-
-put-u32-requires-2 : tie.Need-put-u32-requires-2
-put-u32-requires-2 c κs = search needs
+put-unit-requires : tie.Need-put-unit-requires
+put-unit-requires c κs = search needs
 
 add-put-i64 : tie.Need-add-put-i64
 add-put-i64 c = search needs
@@ -41,13 +35,12 @@ returns : tie.Need-returns
 unfolding lineBytes le16 le32 le64 int64
 returns c =
     let amount = c .before .before in
-    let spare = amount .before .before .before .before .before in
-    let unit = spare .before .before .before .before in
+    let unit = amount .before .before .before .before .before in
     let names = unit .before .before .before .before in
     record {
       bytes =
           put-more _ _ _ _
-          (put-more _ _ _ _ (put-more _ _ _ _ (names .put-names .ensures) (unit .put-u32 .ensures)) (spare .put-u322 .ensures))
+          (put-more _ _ _ _ (names .put-names .ensures) (unit .put-unit .ensures))
           (rw (toZ-ofZ (sfits-of {w = w64} (amount .before .struct-told .given .1 .1 .1 .1 .0 .1))) at (amount .put-i64 .ensures));
       next = refl;
     }
@@ -57,10 +50,8 @@ put-line-spec =
     tie.close
     (tie.spec
     put-names-requires
-    add-put-u32
-    put-u32-requires
-    add-put-u32-2
-    put-u32-requires-2
+    add-put-unit
+    put-unit-requires
     add-put-i64
     put-i64-requires
     add-result

@@ -1,6 +1,8 @@
--- `totals::divisors::counted` meets its contract. The region's bit decides the case, and the service which energy counts. Assumes nothing.
-use mathlib.Core.Path.{sym, _∙_}
-use Rattle.totals.specs.Divisors.{countedIn}
+-- `totals::divisors::counted` meets its contract. The bit of the region, 1 or 0, times the energy that the service asks for. Assumes nothing.
+use mathlib.Core.Path.{_∙_}
+use native.Mathlib.Omega.{arith}
+use Rattle.totals.specs.Inner.Totals.{entryOf}
+use Rattle.totals.proofs.Turns.{share-small, counted-product}
 use borrow.Author.Needs.{needs}
 use Rattle.totals.proofs.divisors.counted.Statement.{statement}
 use Rattle.totals.proofs.divisors.counted.Tie as tie
@@ -20,16 +22,19 @@ of-requires-3 c κs = search needs
 is-in-requires : tie.Need-is-in-requires
 is-in-requires c κs = search needs
 
+cast-result : tie.Need-cast-result
+cast-result c = search needs
+
 energy-in-requires : tie.Need-energy-in-requires
 energy-in-requires c κs = search needs
 
 returns : tie.Need-returns
-unfolding countedIn
-returns c = rw (rw (c .before .before .before .of3 .ensures) at (sym (c .before .before .is-in .ensures) ∙ c .before .if1 .taken)) (c .energy-in .ensures ∙ rw (c .before .before .before .before .of2 .ensures, c .before .before .before .before .before .of .ensures))
+returns c = counted-product _ _ _ (c .before .before .of3 .ensures) (c .before .is-in .ensures) (c .energy-in .ensures ∙ rw (c .before .before .before .of2 .ensures, c .before .before .before .before .of .ensures))
 
-returns-2 : tie.Need-returns-2
-unfolding countedIn
-returns-2 c = rw (rw (c .before .before .of3 .ensures) at (sym (c .before .is-in .ensures) ∙ c .if1 .left))
+mul-result : tie.Need-mul-result
+mul-result c =
+    let s = c .before .before .before .before .before in
+    omega (arith, returns c, share-small (s .args .r) (entryOf (s .args .t) (s .args .g)) (s .args .g) (s .pre .1))
 
 pub counted-spec : {M : Type 1} → statement M
 counted-spec =
@@ -40,6 +45,7 @@ counted-spec =
     cast-of
     of-requires-3
     is-in-requires
+    cast-result
     energy-in-requires
-    returns
-    returns-2)
+    mul-result
+    returns)
