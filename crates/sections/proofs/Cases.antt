@@ -1,12 +1,10 @@
--- Small facts that many proofs come to: 0 is not 1, a number is 0 or is not, answers that are equal, a choice between equals or by a product, and a
--- fact of each of the five regions. Assumes nothing.
-use Prim.Native.Nat.{ℕ, zero, suc, _*_, _<_}
+-- Small facts that many proofs come to: 0 is not 1, a number is 0 or is not, answers that are equal, a choice between equals, and a fact of each of
+-- the five regions. Assumes nothing.
+use Prim.Native.Nat.{ℕ, zero, suc, _<_}
 use mathlib.Core.Path.{_≡_, refl, sym}
 use mathlib.Core.Bool.{Bool, true, false, cond}
 use mathlib.Core.Logic.{_⊎_, inl, inr}
 use native.Mathlib.Omega.{arith}
-use native.Mathlib.Nat.{one-mul, zero-mul}
-use mir.Val.{boolByte}
 
 -- where constructors that differ are said to be equal, `cc` shows that 0 is 1
 pub zero-one : _≡_ {A = ℕ} 0 1 → ⊥
@@ -35,11 +33,6 @@ no-yes e q = zero-one cc
 pub cond-same : {A : Type 0} (t : Bool) (x : A) → cond t x x ≡ x
 cond-same true x = refl
 cond-same false x = refl
-
--- a choice by a product: the test's bit, 1 or 0, times a number
-pub bit-times : (t : Bool) (x : ℕ) → boolByte t * x ≡ cond t x 0
-bit-times true x = one-mul x
-bit-times false x = zero-mul x
 
 -- what holds of each of the five regions
 pub five : (P : ℕ → Type 0) → P 0 → P 1 → P 2 → P 3 → P 4 → (g : ℕ) → g < 5 → P g

@@ -5,7 +5,7 @@ use mathlib.Core.List.{[], _∷_}
 use mathlib.Core.Bool.{Bool, true, false, cond}
 use mathlib.Core.Logic.{⊎-elim}
 use native.Mathlib.Omega.{arith}
-use native.Mathlib.Nat.{eq-or-lt-of-le, not-suc-le-zero, le-of-suc-le-suc, le-refl, le-trans, le-of-eq, mul-le-mul, add-comm}
+use native.Mathlib.Nat.{eq-or-lt-of-le, not-suc-le-zero, le-of-suc-le-suc, le-refl, le-trans, le-of-eq, mul-le-mul, add-comm, one-mul, zero-mul}
 use borrow.Author.Tests.{eq-eqb}
 use mir.Val.{boolByte}
 use Rattle.numbers.specs.Round.{roundN}
@@ -13,7 +13,6 @@ use Rattle.numbers.proofs.Rounding.{round-share}
 use Rattle.sections.specs.Total.{total, keyed}
 use Rattle.sections.specs.Inner.Walk.{Stands, Past}
 use Rattle.sections.proofs.Total.{total-bound, total-under, keyed-le}
-use Rattle.sections.proofs.Cases.{bit-times}
 use Rattle.sections.proofs.Search.{lt-or-ge}
 use Rattle.sections.proofs.Walk.{Run, run-start, run-next, run-stop, run-done, sum-start, sum-more, sum-past}
 use Rattle.market.specs.Kinds.{bitSet}
@@ -47,7 +46,11 @@ energy-small p r h = by (bitSet (p .mask) (r .region))
 -- by product: t says whether the row's region, by its number k, is in the part's mask
 pub energy-product : (p : Part) (r : EnergyRow) {k x : ℕ} {t : Bool} → k ≡ r .region → t ≡ bitSet (p .mask) k → x ≡ rowBy (p .basis) r → boolByte t * x ≡ energyIn p r
 unfolding energyIn
-energy-product p r q e d = rw (e, q, d) (bit-times (bitSet (p .mask) (r .region)) (rowBy (p .basis) r))
+energy-product p r q e d = rw (e, q, d) (by (bitSet (p .mask) (r .region)))
+  where
+    by : (t : Bool) → boolByte t * rowBy (p .basis) r ≡ cond t (rowBy (p .basis) r) 0
+    by true = one-mul (rowBy (p .basis) r)
+    by false = zero-mul (rowBy (p .basis) r)
 
 module _ (p : Part) (energy : ℕ → EnergyRow) (n : ℕ) where
   abbrev counted : ℕ → ℕ

@@ -1,5 +1,5 @@
 -- The region sums turn by turn, the test of an entry, the sum over a mask, and the entries of a book as totals. Assumes nothing.
-use Prim.Native.Nat.{ℕ, zero, suc, _+_, _*_, _≤_, _<_}
+use Prim.Native.Nat.{ℕ, zero, suc, _+_, _≤_, _<_}
 use mathlib.Core.Path.{_≡_, refl, sym, subst, ap, _∙_}
 use mathlib.Core.Bool.{Bool, true, false, not, cond}
 use mathlib.Core.List.{List}
@@ -8,8 +8,6 @@ use native.Mathlib.Nat.{not-suc-le-zero, le-trans}
 use lib.Dec.{eqb}
 use lib.ListN.{length, getD, set, replicate}
 use lib.Seq.{ext-getD}
-use mir.Val.{boolByte}
-use Rattle.sections.proofs.Cases.{bit-times}
 use Rattle.sections.proofs.Total.{total-same}
 use Rattle.sections.proofs.Groups.{split-nothing, split-more, split-bound}
 use Rattle.market.specs.Kinds.{basisOf, bitSet}
@@ -109,11 +107,6 @@ share-small r e g h = by (bitSet (r .mask) g)
     by : (t : Bool) → cond t (entryBy (basisOf (r .service)) e) 0 ≤ 20_000_000
     by true = entry-small (basisOf (r .service)) e h
     by false = omega arith
-
--- by product: x says whether region k is in the mask, and y is the energy there
-pub counted-product : (r : Constraint) (e : Entry) (g : ℕ) {k y : ℕ} {x : Bool} → k ≡ g → x ≡ bitSet (r .mask) k → y ≡ entryBy (basisOf (r .service)) e → boolByte x * y ≡ countedIn r e g
-unfolding countedIn
-counted-product r e g p q d = rw (q, p, d) (bit-times (bitSet (r .mask) g) (entryBy (basisOf (r .service)) e))
 
 -- a total to divide by depends on the five entries alone
 pub divisor-same : (f h : ℕ → Entry) (r : Constraint) → ((g : ℕ) → g < 5 → f g ≡ h g) → overRegions f r ≡ overRegions h r

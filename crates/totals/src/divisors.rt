@@ -29,14 +29,18 @@ fn energy_in(t: Totals, basis: Basis, g: usize) -> u64
     basis.pick(ace[g], asoe[g], residual[g])
 }
 
-// What region g counts for over a constraint's regions. It is a product and no branch: which regions a constraint has, the processor's branch
-// prediction would often guess wrong.
+// What region g counts for over a constraint's regions. Its energy is taken first, so that what is left is a choice and no branch: which regions a
+// constraint has, the processor's branch prediction would often guess wrong.
 fn counted(r: Constraint, t: Totals, g: usize) -> u64
-    requires { ⌜ (g < 5) × EntryRule (entryOf t g) ⌝ }
+    requires { ⌜ g < 5 ⌝ }
     ensures { λ x. ⌜ x ≡ countedIn r (entryOf t g) g ⌝ }
 {
-    let basis = Basis::of(Service::of(r.service));
-    (Region::of(g as u8).is_in(r.mask) as u64) * energy_in(t, basis, g)
+    let energy = energy_in(t, Basis::of(Service::of(r.service)), g);
+    if Region::of(g as u8).is_in(r.mask) {
+        energy
+    } else {
+        0
+    }
 }
 
 // The energy over a constraint's regions, of the kind that its cost is shared by: an account's, or that of all.

@@ -1,8 +1,6 @@
--- `totals::divisors::counted` meets its contract. The bit of the region, 1 or 0, times the energy that the service asks for. Assumes nothing.
-use mathlib.Core.Path.{_∙_}
-use native.Mathlib.Omega.{arith}
-use Rattle.totals.specs.Inner.Totals.{entryOf}
-use Rattle.totals.proofs.Turns.{share-small, counted-product}
+-- `totals::divisors::counted` meets its contract. The service says which energy counts, and the region's bit whether it does. Assumes nothing.
+use mathlib.Core.Path.{sym, _∙_}
+use Rattle.totals.specs.Divisors.{countedIn}
 use borrow.Author.Needs.{needs}
 use Rattle.totals.proofs.divisors.counted.Statement.{statement}
 use Rattle.totals.proofs.divisors.counted.Tie as tie
@@ -13,6 +11,9 @@ of-requires c κs = search needs
 of-requires-2 : tie.Need-of-requires-2
 of-requires-2 c κs = search needs
 
+energy-in-requires : tie.Need-energy-in-requires
+energy-in-requires c κs = search needs
+
 cast-of : tie.Need-cast-of
 cast-of c = search needs
 
@@ -22,19 +23,15 @@ of-requires-3 c κs = search needs
 is-in-requires : tie.Need-is-in-requires
 is-in-requires c κs = search needs
 
-cast-result : tie.Need-cast-result
-cast-result c = search needs
-
-energy-in-requires : tie.Need-energy-in-requires
-energy-in-requires c κs = search needs
-
 returns : tie.Need-returns
-returns c = counted-product _ _ _ (c .before .before .of3 .ensures) (c .before .is-in .ensures) (c .energy-in .ensures ∙ rw (c .before .before .before .of2 .ensures, c .before .before .before .before .of .ensures))
+unfolding countedIn
+returns c =
+    let e = c .before .before .before in
+    rw (rw (c .before .before .of3 .ensures) at (sym (c .before .is-in .ensures) ∙ c .if1 .taken)) (e .energy-in .ensures ∙ rw (e .before .of2 .ensures, e .before .before .of .ensures))
 
-mul-result : tie.Need-mul-result
-mul-result c =
-    let s = c .before .before .before .before .before in
-    omega (arith, returns c, share-small (s .args .r) (entryOf (s .args .t) (s .args .g)) (s .args .g) (s .pre .1))
+returns-2 : tie.Need-returns-2
+unfolding countedIn
+returns-2 c = rw (rw (c .before .before .of3 .ensures) at (sym (c .before .is-in .ensures) ∙ c .if1 .left))
 
 pub counted-spec : {M : Type 1} → statement M
 counted-spec =
@@ -42,10 +39,9 @@ counted-spec =
     (tie.spec
     of-requires
     of-requires-2
+    energy-in-requires
     cast-of
     of-requires-3
     is-in-requires
-    cast-result
-    energy-in-requires
-    mul-result
-    returns)
+    returns
+    returns-2)

@@ -21,7 +21,7 @@ loop-holds : tie.Need-loop-holds Inv-loop μ-loop
 loop-holds c = (search needs, total-none _)
 
 counted-requires : tie.Need-counted-requires Inv-loop μ-loop
-counted-requires c κs = (c .loop-test .taken, c .before .before .pre _ (c .loop-test .taken))
+counted-requires c κs = search needs
 
 add-sum : tie.Need-add-sum Inv-loop μ-loop
 add-sum c = omega (arith, total-room _ 20_000_000 5 (λ k l. share-small _ _ k (c .before .before .before .pre k l)) _ (c .before .before .loop .inv .1) (c .counted .ensures) (c .before .loop-test .taken))
