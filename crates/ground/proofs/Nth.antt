@@ -5,6 +5,7 @@ use mathlib.Core.List.{List, [], _∷_, _++_}
 use native.Mathlib.Omega.{arith}
 use native.Mathlib.Nat.{le-of-suc-le-suc, not-suc-le-zero}
 use lib.ListN.{length}
+use Rattle.sections.proofs.Cases.{zero-one}
 use Rattle.ground.specs.Nth.{Nth, found, past, nth}
 
 -- where the number lies past the first of two lists, the second is asked for what is left
@@ -13,7 +14,7 @@ onward (found x) f = found x
 onward (past i) f = f i
 
 found-not-past : {A : Type 0} (x : A) (k : ℕ) → found x ≡ past k → ⊥
-found-not-past x k e = let z : _≡_ {A = ℕ} 0 1 = cc in omega arith
+found-not-past x k e = zero-one cc
 
 module _ {A : Type 0} where
   pub nth-append : (xs ys : List A) (i : ℕ) → nth (xs ++ ys) i ≡ onward (nth xs i) (nth ys)

@@ -7,6 +7,7 @@ use native.Mathlib.Omega.{arith}
 use borrow.Author.Tests.{le-leb, lt-leb, leb-true}
 use lib.Dec.{leb}
 use lib.ListN.{length}
+use Rattle.sections.proofs.Cases.{zero-one}
 use Rattle.ground.specs.Bytes.{part}
 use Rattle.ground.specs.Put.{put}
 use Rattle.ground.proofs.Put.{put-there}
@@ -33,7 +34,7 @@ module _ (o : Outcome) (xs : List ℕ) (given : o ≡ gives xs) (l : List ℕ) w
       record { answer = rw (given, f) (ap Length q); left = rw (given, f) e }
 
 not-refused : (n number place : ℕ) → Length n ≡ Refused number place → ⊥
-not-refused n number place e = let z : _≡_ {A = ℕ} 0 1 = cc in omega arith
+not-refused n number place e = zero-one cc
 
 -- where a length is answered, the definition gives just the bytes that stand at the front
 pub lent-front : (o : Outcome) (l : List ℕ) (n : ℕ) (b : List ℕ) → Lent o l (Length n) b → o ≡ gives (part b 0 n)

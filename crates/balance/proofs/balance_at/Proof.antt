@@ -26,25 +26,35 @@ enum-known-place : tie.Need-enum-known-place
 enum-known-place c = search needs
 
 constraint-balance-requires : tie.Need-constraint-balance-requires
-constraint-balance-requires c κs = (c .before .before .before .before .before .before .before .before .pre .0, (c .before .before .before .before .before .before .before .before .pre .1, constraint-in (c .before .before .before .before .before .before .before .before .args .book .now) (c .before .before .before .before .before .before .before .before .args .h) _ (c .before .before .before .place-of .ensures) (c .before .place .given .1)))
+constraint-balance-requires c κs =
+    let start = c .before .before .before .before .before .before .before .before in
+    (start .pre .0, (start .pre .1, constraint-in (start .args .book .now) (start .args .h) _ (c .before .before .before .place-of .ensures) (c .before .place .given .1)))
 
 enum-known-place-2 : tie.Need-enum-known-place-2
 enum-known-place-2 c = search needs
 
 contract-balance-requires : tie.Need-contract-balance-requires
-contract-balance-requires c κs = (c .before .before .before .before .before .before .before .before .pre .0, (c .before .before .before .before .before .before .before .before .pre .1, contract-in (c .before .before .before .before .before .before .before .before .args .book .now) (c .before .before .before .before .before .before .before .before .args .h) _ (c .before .before .before .place-of .ensures) (c .before .place2 .given .1)))
+contract-balance-requires c κs =
+    let start = c .before .before .before .before .before .before .before .before in
+    (start .pre .0, (start .pre .1, contract-in (start .args .book .now) (start .args .h) _ (c .before .before .before .place-of .ensures) (c .before .place2 .given .1)))
 
 enum-told : tie.Need-enum-told
 enum-told c = search needs
 
 returns : tie.Need-returns
-returns c = end-constraint (c .before .before .before .before .before .before .before .before .before .args .book .now) (c .before .before .before .before .before .before .before .before .before .args .h) _ (c .before .before .before .before .place-of .ensures) (c .before .before .place .given .1) (c .constraint-balance .ensures)
+returns c =
+    let start = c .before .before .before .before .before .before .before .before .before in
+    end-constraint (start .args .book .now) (start .args .h) _ (c .before .before .before .before .place-of .ensures) (c .before .before .place .given .1) (c .constraint-balance .ensures)
 
 returns-2 : tie.Need-returns-2
-returns-2 c = end-contract (c .before .before .before .before .before .before .before .before .before .args .book .now) (c .before .before .before .before .before .before .before .before .before .args .h) _ (c .before .before .before .before .place-of .ensures) (c .before .before .place2 .given .1) (c .contract-balance .ensures)
+returns-2 c =
+    let start = c .before .before .before .before .before .before .before .before .before in
+    end-contract (start .args .book .now) (start .args .h) _ (c .before .before .before .before .place-of .ensures) (c .before .before .place2 .given .1) (c .contract-balance .ensures)
 
 returns-3 : tie.Need-returns-3
-returns-3 c = end-15 (c .before .before .before .before .before .before .before .args .book .now) (c .before .before .before .before .before .before .before .args .h) _ (c .before .before .place-of .ensures) (c .enum-told .given .1)
+returns-3 c =
+    let start = c .before .before .before .before .before .before .before in
+    end-15 (start .args .book .now) (start .args .h) _ (c .before .before .place-of .ensures) (c .enum-told .given .1)
 
 pub balance-at-spec : {M : Type 1} → statement M
 balance-at-spec =

@@ -43,7 +43,9 @@ unit-account-requires : tie.Need-unit-account-requires Inv-loop μ-loop
 unit-account-requires c κs = omega (arith, way-row _ _ _ (c .before .before .before .before .before .before .pre .1) (c .before .loop .inv))
 
 returns : tie.Need-returns Inv-loop μ-loop
-returns c = (c .before .before .before .loop .inv .near, way-found _ _ _ (c .before .before .before .loop .inv) refl (c .before .unit-account .ensures) (c .if1 .taken))
+returns c =
+    let start = c .before .before .before in
+    (start .loop .inv .near, way-found _ _ _ (start .loop .inv) refl (c .before .unit-account .ensures) (c .if1 .taken))
 
 child-requires : tie.Need-child-requires Inv-loop μ-loop
 child-requires c κs = (omega (arith, way-row _ _ _ (c .before .before .before .before .before .before .before .before .pre .1) (c .before .before .before .loop .inv)), omega (arith, c .before .before .before .loop .inv .small))
@@ -52,10 +54,14 @@ mul-bits-2 : tie.Need-mul-bits-2 Inv-loop μ-loop
 mul-bits-2 c = search needs
 
 mul-link-2 : tie.Need-mul-link-2 Inv-loop μ-loop
-mul-link-2 c = omega (arith, c .child .ensures, way-row _ _ _ (c .before .before .before .before .before .before .before .before .before .pre .1) (c .before .before .before .before .loop .inv), c .before .before .before .before .loop .inv .small, c .before .before .before .before .before .before .before .before .before .pre .1 .slots)
+mul-link-2 c =
+    let start = c .before .before .before .before .before .before .before .before .before in
+    omega (arith, c .child .ensures, way-row _ _ _ (start .pre .1) (c .before .before .before .before .loop .inv), c .before .before .before .before .loop .inv .small, start .pre .1 .slots)
 
 element-copy-out-link-2 : tie.Need-element-copy-out-link-2 Inv-loop μ-loop
-element-copy-out-link-2 c = omega (arith, c .child .ensures, way-row _ _ _ (c .before .before .before .before .before .before .before .before .before .pre .1) (c .before .before .before .before .loop .inv), c .before .before .before .before .loop .inv .small, c .before .before .before .before .before .before .before .before .before .pre .1 .slots)
+element-copy-out-link-2 c =
+    let start = c .before .before .before .before .before .before .before .before .before in
+    omega (arith, c .child .ensures, way-row _ _ _ (start .pre .1) (c .before .before .before .before .loop .inv), c .before .before .before .before .loop .inv .small, start .pre .1 .slots)
 
 cast-link-2 : tie.Need-cast-link-2 Inv-loop μ-loop
 cast-link-2 c = omega (arith, c .before .before .before .before .before .before .before .before .before .before .pre .1 .rows (c .before .child .result))

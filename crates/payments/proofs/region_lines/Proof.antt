@@ -20,7 +20,9 @@ entry-row-requires : tie.Need-entry-row-requires
 entry-row-requires c κs = search needs
 
 halves-of-requires : tie.Need-halves-of-requires
-halves-of-requires c κs = (c .before .before .before .before .before .before .before .pre .1 .0 .rule .payment, c .before .before .before .before .before .before .before .pre .1 .0 .rule .factor _ (c .before .before .before .before .before .before .before .pre .0 .1))
+halves-of-requires c κs =
+    let start = c .before .before .before .before .before .before .before in
+    (start .pre .1 .0 .rule .payment, start .pre .1 .0 .rule .factor _ (start .pre .0 .1))
 
 mul-ace-line : tie.Need-mul-ace-line
 mul-ace-line c = search needs
@@ -32,7 +34,9 @@ cast-ace-line : tie.Need-cast-ace-line
 cast-ace-line c = search needs
 
 ace-line-requires : tie.Need-ace-line-requires
-ace-line-requires c κs = ((c .before .before .before .before .before .before .before .before .before .pre .0 .1, rw (c .before .halves-of .ensures) (halves-small _ _ (c .before .before .before .before .before .before .before .before .before .pre .1 .0 .rule .payment) (c .before .before .before .before .before .before .before .before .before .pre .1 .0 .rule .factor _ (c .before .before .before .before .before .before .before .before .before .pre .0 .1)))), rw (c .before .before .before .before .entry-row .ensures) (c .before .before .before .before .before .before .before .before .before .pre .1 .0 .ace _ (c .before .before .before .before .before .before .before .before .before .pre .0 .1) (c .before .before .before .before .before .if1 .left)))
+ace-line-requires c κs =
+    let start = c .before .before .before .before .before .before .before .before .before in
+    ((start .pre .0 .1, rw (c .before .halves-of .ensures) (halves-small _ _ (start .pre .1 .0 .rule .payment) (start .pre .1 .0 .rule .factor _ (start .pre .0 .1)))), rw (c .before .before .before .before .entry-row .ensures) (start .pre .1 .0 .ace _ (start .pre .0 .1) (c .before .before .before .before .before .if1 .left)))
 
 mul-asoe-line : tie.Need-mul-asoe-line
 mul-asoe-line c = search needs
@@ -44,7 +48,9 @@ cast-asoe-line : tie.Need-cast-asoe-line
 cast-asoe-line c = search needs
 
 asoe-line-requires : tie.Need-asoe-line-requires
-asoe-line-requires c κs = ((c .before .before .before .before .before .before .before .before .before .before .before .pre .0 .1, rw (c .before .before .before .halves-of .ensures) (halves-small _ _ (c .before .before .before .before .before .before .before .before .before .before .before .pre .1 .0 .rule .payment) (c .before .before .before .before .before .before .before .before .before .before .before .pre .1 .0 .rule .factor _ (c .before .before .before .before .before .before .before .before .before .before .before .pre .0 .1)))), rw (c .before .before .before .before .before .before .entry-row .ensures) (c .before .before .before .before .before .before .before .before .before .before .before .pre .1 .0 .asoe _ (c .before .before .before .before .before .before .before .before .before .before .before .pre .0 .1) (c .before .before .before .before .before .before .before .if1 .left)))
+asoe-line-requires c κs =
+    let start = c .before .before .before .before .before .before .before .before .before .before .before in
+    ((start .pre .0 .1, rw (c .before .before .before .halves-of .ensures) (halves-small _ _ (start .pre .1 .0 .rule .payment) (start .pre .1 .0 .rule .factor _ (start .pre .0 .1)))), rw (c .before .before .before .before .before .before .entry-row .ensures) (start .pre .1 .0 .asoe _ (start .pre .0 .1) (c .before .before .before .before .before .before .before .if1 .left)))
 
 emit-two-requires : tie.Need-emit-two-requires
 emit-two-requires c κs = region-room _ _ _ _ (c .before .before .before .before .before .before .before .before .before .if1 .left) (c .before .before .before .before .before .before .before .before .before .before .before .before .before .pre .1 .1)

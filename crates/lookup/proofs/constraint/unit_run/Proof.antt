@@ -29,7 +29,9 @@ own-count-requires : tie.Need-own-count-requires Inv-loop μ-loop
 own-count-requires c κs = search needs
 
 unit-line-requires : tie.Need-unit-line-requires Inv-loop μ-loop
-unit-line-requires c κs = (c .before .before .before .before .before .before .before .before .before .before .pre .1 .1 .1, (rw (c .before .before .before .before .before .unit-row .ensures) (c .before .before .before .before .before .before .before .before .before .before .pre .1 .0 .rules _ (c .before .before .before .before .before .before .loop-test .taken)), in-row _ _ _ (c .before .before .before .before .before .before .before .before .lines-each .ensures .0) (c .before .own-count .ensures) _ (c .if2 .taken)))
+unit-line-requires c κs =
+    let start = c .before .before .before .before .before .before .before .before .before .before in
+    (start .pre .1 .1 .1, (rw (c .before .before .before .before .before .unit-row .ensures) (start .pre .1 .0 .rules _ (c .before .before .before .before .before .before .loop-test .taken)), in-row _ _ _ (c .before .before .before .before .before .before .before .before .lines-each .ensures .0) (c .before .own-count .ensures) _ (c .if2 .taken)))
 
 returns-2 : tie.Need-returns-2 Inv-loop μ-loop
 returns-2 c = seek-found _ _ _ _ _ _ _ (c .before .before .before .before .before .before .before .before .loop .inv) (c .before .before .before .before .before .before .before .loop-test .taken) (c .before .before .before .before .before .before .unit-row .ensures) (c .before .before .before .if1 .left) (c .before .before .before .before .before .before .before .before .before .lines-each .ensures .0) (c .before .before .own-count .ensures) (c .before .if2 .taken) (c .unit-line .ensures)
