@@ -17,6 +17,17 @@ pub fn share(pool: u64, own: u64, total: u64) -> u64
     round::nearest(pool * own, total)
 }
 
+// The same for an account that may own nothing, as many do of one kind of energy: its share is then 0, and needs no division.
+pub fn owned_share(pool: u64, own: u64, total: u64) -> u64
+    requires { ⌜ (pool ≤ moneyLimit) × ((own ≤ total) × ((0 < total) × (total ≤ totalLimit))) ⌝ }
+    ensures { λ r. ⌜ r ≡ roundN (pool * own) total ⌝ }
+{
+    if own == 0 {
+        return 0;
+    }
+    share(pool, own, total)
+}
+
 // What is credited less what is charged: of one line, or summed over lines.
 pub fn net(credit: u64, charge: u64) -> i64
     requires { ⌜ (credit ≤ 1_000_000_000_000_000) × (charge ≤ 1_000_000_000_000_000) ⌝ }

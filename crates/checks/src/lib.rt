@@ -111,7 +111,6 @@ fn region_sums(book: &[u8], h: Header) -> Verdict
 // 10: a total to divide by that is zero.
 pub fn zero_totals(book: &[u8], h: Header) -> Verdict
     requires { ⌜ Laid (now book) h ⌝ }
-    requires { ⌜ Fields (bookIn (now book) h) ⌝ }
     ensures { λ v. ⌜ v ≡ check10 (bookIn (now (book .entry)) h) ⌝ }
 {
     let contracts = h.contracts_at();

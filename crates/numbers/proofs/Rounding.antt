@@ -1,9 +1,9 @@
 -- Laws of rounding. 01, The amounts: "Rounding takes a quotient to the nearest whole number, halves away from zero."
 -- Assumes nothing.
 use Prim.Native.Nat.{ℕ, zero, suc, _+_, _*_, _/_, _≤_, _<_}
-use mathlib.Core.Path.{_≡_, refl}
+use mathlib.Core.Path.{_≡_, refl, sym}
 use mathlib.Core.Bool.{Bool, true, false}
-use native.Mathlib.Nat.{div-eq-of-lt-le, div-eq-of-lt, div-lt-iff-lt-mul, div-zero, mul-div-le, lt-mul-div-succ, mul-le-mul-left, mul-comm}
+use native.Mathlib.Nat.{div-eq-of-lt-le, div-eq-of-lt, div-lt-iff-lt-mul, div-zero, mul-div-le, lt-mul-div-succ, mul-le-mul-left, mul-comm, mul-zero}
 use native.Mathlib.Omega.{arith}
 use Rattle.numbers.specs.Sign.{signed}
 use Rattle.numbers.specs.Round.{roundN, roundZ}
@@ -46,6 +46,10 @@ round-share m own (suc t) k =
 pub round-zero : (d : ℕ) → roundN 0 d ≡ 0
 round-zero zero = refl
 round-zero (suc d) = div-eq-of-lt (omega arith)
+
+-- a share of nothing
+pub share-nothing : (m total : ℕ) {own : ℕ} → own ≡ 0 → 0 ≡ roundN (m * own) total
+share-nothing m total e = rw (e, mul-zero) (sym (round-zero total))
 
 -- a number of a sign and a size is rounded by its size
 pub round-signed : (b : Bool) (n d : ℕ) → roundZ (signed b n) d ≡ signed b (roundN n d)

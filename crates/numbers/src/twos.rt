@@ -1,6 +1,8 @@
 // Two's complement: the number of given bits, the bits of a number, and the sizes of an i32 by its bits.
 // `as` keeps a value and does not reinterpret bits, so that the half in which the bits lie decides.
 ghost use mathlib.Core.Path.{_≡_};
+ghost use mathlib.Core.Bool.{cond};
+ghost use lib.Dec.{ltb};
 ghost use mir.Syntax.{w64};
 ghost use mir.Val.{toZ, ofZ};
 ghost use Rattle.numbers.specs.Sizes.{sizeBelow, aboveOf, belowOf};
@@ -39,9 +41,17 @@ pub fn above_of(w: u32) -> u32
     if w < 2_147_483_648 { w } else { 0 }
 }
 
-// How far an i32 lies below 0.
+// The bits of an i32 that lies below 0, and of any other those of 0.
+fn below_bits(w: u32) -> u32
+    ensures { λ r. ⌜ r ≡ cond (ltb w 2_147_483_648) 0 w ⌝ }
+{
+    if w < 2_147_483_648 { 0 } else { w }
+}
+
+// How far an i32 lies below 0. The size is taken of what was chosen, and not the other way round: so the compiler sees that of a number's two
+// sides one is 0, and leaves out what is written for both.
 pub fn below_of(w: u32) -> u32
     ensures { λ r. ⌜ r ≡ belowOf w ⌝ }
 {
-    if w < 2_147_483_648 { 0 } else { size_of(w) }
+    size_of(below_bits(w))
 }

@@ -4,11 +4,10 @@ use mathlib.Core.Path.{_≡_, refl, _∙_, sym}
 use mathlib.Core.List.{[]}
 use mathlib.Core.Bool.{Bool, true, false, cond, not, _&&_, _||_, or-true, or-false}
 use native.Mathlib.Omega.{arith}
-use native.Mathlib.Nat.{mul-zero}
 use lib.Dec.{eqb}
 use lib.ListN.{length}
 use Rattle.numbers.specs.Round.{roundN}
-use Rattle.numbers.proofs.Rounding.{round-zero}
+use Rattle.numbers.proofs.Rounding.{share-nothing}
 use Rattle.sections.specs.Total.{total}
 use Rattle.sections.specs.Search.{some}
 use Rattle.sections.proofs.Total.{total-zero}
@@ -71,10 +70,6 @@ let-pass B a =
     by false t = refl
 
 -- ---- shares
-
--- a share of nothing
-pub share-nothing : (amount whole : ℕ) {own : ℕ} → own ≡ 0 → 0 ≡ roundN (amount * own) whole
-share-nothing amount whole e = rw (e, mul-zero) (sym (round-zero whole))
 
 -- a share of what is there or not is there or not
 pub share-choice : (amount whole : ℕ) (t : Bool) (own : ℕ) → roundN (amount * cond t own 0) whole ≡ cond t (roundN (amount * own) whole) 0

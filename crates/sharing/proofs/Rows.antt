@@ -9,6 +9,7 @@ use native.Mathlib.Nat.{le-refl, add-zero, zero-add}
 use borrow.Author.Tests.{eqb-true, eqb-false, ne-eqb}
 use lib.Dec.{eqb}
 use Rattle.numbers.specs.Round.{roundN}
+use Rattle.numbers.proofs.Rounding.{share-nothing}
 use Rattle.sections.specs.Total.{total, keyed, totalOf}
 use Rattle.sections.proofs.Total.{total-zero, total-same}
 use Rattle.market.specs.Kinds.{bitSet}
@@ -20,7 +21,7 @@ use Rattle.sharing.specs.Inner.Shares.{energyIn, ownInPart, shareIn, par
 use Rattle.sharing.specs.declared.shares.Part.{Part}
 use Rattle.sharing.proofs.Sums.{sum-same}
 use Rattle.sharing.proofs.Once.{seen-each, has-named, once-named, once-none, sum-each}
-use Rattle.sharing.proofs.Everyone.{share-nothing, share-choice}
+use Rattle.sharing.proofs.Everyone.{share-choice}
 
 -- ---- of numbers of which one at most is not 0, what is made of the sum is the sum of what is made of each
 

@@ -2,8 +2,6 @@
 ghost use mathlib.Core.Path.{_≡_};
 ghost use Prim.Native.Nat.{_*_, _≤_, _<_};
 ghost use lib.ListN.{length};
-ghost use Rattle.numbers.specs.Round.{roundN};
-ghost use Rattle.ground.specs.Units.{moneyLimit, totalLimit};
 ghost use Rattle.sections.specs.Inner.Walk.{Stands};
 ghost use Rattle.rules.specs.Inner.Facts.{EnergyRule};
 ghost use Rattle.records.specs.Rows.{energyRow};
@@ -61,17 +59,6 @@ fn gather(energy: &[u8], n: usize, from: usize, p: Part) -> Group
     Group { own, end: j }
 }
 
-// The rounded share of what an account owns. One without energy in the part's regions owns nothing, and needs no division.
-fn share_of(p: Part, own: u64) -> u64
-    requires { ⌜ (p .amount ≤ moneyLimit) × ((own ≤ p .whole) × ((0 < p .whole) × (p .whole ≤ totalLimit))) ⌝ }
-    ensures { λ x. ⌜ x ≡ roundN (p .amount * own) (p .whole) ⌝ }
-{
-    if own == 0 {
-        return 0;
-    }
-    amounts::shares::share(p.amount, own, p.whole)
-}
-
 // The rounded shares of all accounts, summed. The energy rows are sorted by account, so each share is made as the rows pass.
 pub fn part_sum(energy: &[u8], n: usize, p: Part) -> u64
     requires { ⌜ n * 24 ≤ length (now energy) ⌝ }
@@ -87,7 +74,7 @@ pub fn part_sum(energy: &[u8], n: usize, p: Part) -> u64
     let mut i = 0;
     while i < n {
         let g = gather(energy, n, i, p);
-        sum += share_of(p, g.own);
+        sum += amounts::shares::owned_share(p.amount, g.own, p.whole);
         i = g.end;
     }
     sum

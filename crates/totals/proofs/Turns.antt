@@ -119,8 +119,3 @@ module _ (t : Totals) (entry : ℕ → Entry) (e : (g : ℕ) → g < 5 → entry
 
   pub divisor-read : (r : Constraint) {x : ℕ} → x ≡ overRegions (entryOf t) r → x ≡ overRegions entry r
   divisor-read r q = q ∙ divisor-same (entryOf t) entry r e
-
-  -- the test of check 10
-  pub divides-at : (con : ℕ → Constraint) (j : ℕ) {r : Constraint} {x : ℕ} → r ≡ con j → x ≡ overRegions (entryOf t) r → not (eqb x 0) ≡ constraintDivides entry con j
-  unfolding constraintDivides
-  divides-at con j {r} d q = rw (divisor-read r q, d)

@@ -3,3 +3,4 @@ pub mod Facts
 pub mod Turns
 pub mod Totals
 pub mod Energies
+pub mod Live

@@ -10,6 +10,7 @@ ghost use Rattle.totals.specs.Sums.{entryBy};
 ghost use Rattle.totals.specs.Inner.Totals.{entryOf};
 ghost use Rattle.totals.specs.Divisors.{countedIn, overRegions, constraintDivides, fundedIn, contractDivides};
 use crate::entries::Totals;
+use crate::live;
 use market::Basis;
 use market::Region;
 use market::Service;
@@ -112,13 +113,12 @@ pub fn divisor(regions: &[u8], r: Constraint) -> u64
 // The first constraint whose total to divide by is 0.
 pub fn constraints(regions: &[u8], cons: &[u8], n: usize) -> Checked
     requires { ⌜ (60 ≤ length (now regions)) × (n * 40 ≤ length (now cons)) ⌝ }
-    requires { ⌜ ((g : ℕ) → g < 5 → EntryRule (entryRow (now regions) g)) ⌝ }
     ensures { λ r. ⌜ r ≡ firstBad (constraintDivides (entryRow (now (regions .entry))) (constraintRow (now (cons .entry)))) n ⌝ }
 {
-    let t = totals_of(regions);
+    let live = live::live_of(totals_of(regions));
     let mut j = 0;
     while j < n {
-        if over_regions(t, rows::constraint_row(cons, j)) == 0 {
+        if !live::divides(live, rows::constraint_row(cons, j)) {
             return Checked::Bad(j);
         }
         j += 1;

@@ -11,7 +11,7 @@ use Rattle.book.specs.declared.header.Header.{Header}
 use Rattle.book.specs.Header.{headerOf}
 use Rattle.book.specs.Book.{bookIn}
 use Rattle.book.specs.Table.{check10, soundness, verdict}
-use Rattle.book.specs.Inner.Facts.{Laid, Fields}
+use Rattle.book.specs.Inner.Facts.{Laid}
 use Rattle.book.specs.Inner.Accepted.{SoundBook}
 use Rattle.book.proofs.Promise.{sound}
 
@@ -30,9 +30,6 @@ module _ (b : List ℕ) {v : Verdict} (q : v ≡ soundness b) where
 
     pub laid-in : {h : Header} → h ≡ headerOf b → Laid b h
     laid-in i = rw i (record { few = given .sound .few; long = given .long })
-
-    pub fields-in : {h : Header} → h ≡ headerOf b → Fields (bookIn b h)
-    fields-in i = rw i (given .sound .fields)
 
     -- w is what check 10 answered
     pub tenth : {h : Header} {w : Verdict} → h ≡ headerOf b → w ≡ check10 (bookIn b h) → w ≡ verdict b

@@ -61,12 +61,12 @@ at-record-requires : tie.Need-at-record-requires
 at-record-requires c κs =
     let shared = c .before .before .before .before in
     let start = shared .before .before .before .before .before .before .pre in
-    (omega arith, λ i f. omega (arith, bad-within _ _ f (shared .constraints .ensures), start .0 .few .constraints))
+    (omega arith, λ i f. omega (arith, bad-within _ _ f (shared .constraints .ensures), start .few .constraints))
 
 at-record-requires-2 : tie.Need-at-record-requires-2
 at-record-requires-2 c κs =
     let contracts = c .before .before .before .before .before .before .before .before .before in
-    let few = contracts .before .before .pre .0 .few in
+    let few = contracts .before .before .pre .few in
     (omega (arith, contracts .contracts-at .ensures, few), λ i f. omega (arith, bad-within _ _ f (c .before .contracts .ensures), few .contracts))
 
 earlier-requires : tie.Need-earlier-requires

@@ -1,5 +1,5 @@
 -- `verdict::check` meets its contract. A book that is not sound has its answer, and a sound one gives check 10 what it rests on. Assumes nothing.
-use Rattle.verdict.proofs.Two.{unsound, header-room, laid-in, fields-in, tenth}
+use Rattle.verdict.proofs.Two.{unsound, header-room, laid-in, tenth}
 use borrow.Author.Needs.{needs}
 use Rattle.verdict.proofs.check.Statement.{statement}
 use Rattle.verdict.proofs.check.Tie as tie
@@ -22,8 +22,7 @@ header-of-requires c κs = header-room _ (c .before .before .soundness .ensures)
 zero-totals-requires : tie.Need-zero-totals-requires
 zero-totals-requires c κs =
     let passed = c .before in
-    let sound = passed .before .before .soundness .ensures in
-    (laid-in _ sound (passed .enum-told .given .1) (c .header-of .ensures), fields-in _ sound (passed .enum-told .given .1) (c .header-of .ensures))
+    laid-in _ (passed .before .before .soundness .ensures) (passed .enum-told .given .1) (c .header-of .ensures)
 
 returns-2 : tie.Need-returns-2
 returns-2 c =

@@ -17,44 +17,44 @@ element-copy-out-if1 c = search needs
 returns : tie.Need-returns
 returns c = row-none (c .before .before .before .pre) (c .if1 .taken)
 
-mul-share : tie.Need-mul-share
-mul-share c = search needs
+mul-owned-share : tie.Need-mul-owned-share
+mul-owned-share c = search needs
 
-element-copy-out-share : tie.Need-element-copy-out-share
-element-copy-out-share c = search needs
+element-copy-out-owned-share : tie.Need-element-copy-out-owned-share
+element-copy-out-owned-share c = search needs
 
-cast-share : tie.Need-cast-share
-cast-share c = search needs
+cast-owned-share : tie.Need-cast-owned-share
+cast-owned-share c = search needs
 
-mul-share-2 : tie.Need-mul-share-2
-mul-share-2 c = search needs
+mul-owned-share-2 : tie.Need-mul-owned-share-2
+mul-owned-share-2 c = search needs
 
-element-copy-out-share-2 : tie.Need-element-copy-out-share-2
-element-copy-out-share-2 c = search needs
+element-copy-out-owned-share-2 : tie.Need-element-copy-out-owned-share-2
+element-copy-out-owned-share-2 c = search needs
 
-share-requires : tie.Need-share-requires
-share-requires c κs = let f = c .before .before .before .before .before .before .pre .ace (c .before .before .before .if1 .left) in (f .small, (f .within, (f .above, f .below)))
+owned-share-requires : tie.Need-owned-share-requires
+owned-share-requires c κs = let f = c .before .before .before .before .before .before .pre .ace (c .before .before .before .if1 .left) in (f .small, (f .within, (f .above, f .below)))
 
-mul-share-3 : tie.Need-mul-share-3
-mul-share-3 c = search needs
+mul-owned-share-3 : tie.Need-mul-owned-share-3
+mul-owned-share-3 c = search needs
 
-element-copy-out-share-3 : tie.Need-element-copy-out-share-3
-element-copy-out-share-3 c = search needs
+element-copy-out-owned-share-3 : tie.Need-element-copy-out-owned-share-3
+element-copy-out-owned-share-3 c = search needs
 
-cast-share-2 : tie.Need-cast-share-2
-cast-share-2 c = search needs
+cast-owned-share-2 : tie.Need-cast-owned-share-2
+cast-owned-share-2 c = search needs
 
-mul-share-4 : tie.Need-mul-share-4
-mul-share-4 c = search needs
+mul-owned-share-4 : tie.Need-mul-owned-share-4
+mul-owned-share-4 c = search needs
 
-element-copy-out-share-4 : tie.Need-element-copy-out-share-4
-element-copy-out-share-4 c = search needs
+element-copy-out-owned-share-4 : tie.Need-element-copy-out-owned-share-4
+element-copy-out-owned-share-4 c = search needs
 
-share-requires-2 : tie.Need-share-requires-2
-share-requires-2 c κs = let f = c .before .before .before .before .before .before .before .before .before .before .pre .asoe (c .before .before .before .before .before .before .before .if1 .left) in (f .small, (f .within, (f .above, f .below)))
+owned-share-requires-2 : tie.Need-owned-share-requires-2
+owned-share-requires-2 c κs = let f = c .before .before .before .before .before .before .before .before .before .before .pre .asoe (c .before .before .before .before .before .before .before .if1 .left) in (f .small, (f .within, (f .above, f .below)))
 
 returns-2 : tie.Need-returns-2
-returns-2 c = row-both (c .before .before .before .before .before .before .before .before .before .before .before .pre) (c .before .before .before .before .before .before .before .before .if1 .left) (c .before .before .before .before .share .ensures) (c .share2 .ensures)
+returns-2 c = row-both (c .before .before .before .before .before .before .before .before .before .before .before .pre) (c .before .before .before .before .before .before .before .before .if1 .left) (c .before .before .before .before .owned-share .ensures) (c .owned-share2 .ensures)
 
 add-result : tie.Need-add-result
 add-result c = omega (arith, row-small (c .before .before .before .before .before .before .before .before .before .before .before .pre) (returns-2 c))
@@ -67,17 +67,17 @@ row-pays-spec =
     mul-if1
     element-copy-out-if1
     returns
-    mul-share
-    element-copy-out-share
-    cast-share
-    mul-share-2
-    element-copy-out-share-2
-    share-requires
-    mul-share-3
-    element-copy-out-share-3
-    cast-share-2
-    mul-share-4
-    element-copy-out-share-4
-    share-requires-2
+    mul-owned-share
+    element-copy-out-owned-share
+    cast-owned-share
+    mul-owned-share-2
+    element-copy-out-owned-share-2
+    owned-share-requires
+    mul-owned-share-3
+    element-copy-out-owned-share-3
+    cast-owned-share-2
+    mul-owned-share-4
+    element-copy-out-owned-share-4
+    owned-share-requires-2
     add-result
     returns-2)

@@ -21,11 +21,11 @@ loop-holds c = pass-start _ _ _ (c .before .before .before .pre .1 .0)
 gather-requires : tie.Need-gather-requires Inv-loop μ-loop
 gather-requires c κs = let pre = c .before .before .before .before .before .pre in ((pre .0, c .loop-test .taken), (pre .1 .0, c .before .loop .inv .stands (c .loop-test .taken)))
 
-share-of-requires : tie.Need-share-of-requires Inv-loop μ-loop
-share-of-requires c κs = let h = c .before .before .before .before .before .before .pre .1 .1 in (h .small, (own-fits _ _ _ h (c .gather .ensures), (h .above, h .below)))
+owned-share-requires : tie.Need-owned-share-requires Inv-loop μ-loop
+owned-share-requires c κs = let h = c .before .before .before .before .before .before .pre .1 .1 in (h .small, (own-fits _ _ _ h (c .gather .ensures), (h .above, h .below)))
 
 loop-again : tie.Need-loop-again Inv-loop μ-loop
-loop-again c = pass-more _ _ _ (c .before .before .before .before .before .before .before .pre .1 .0) (c .before .before .before .loop .inv) (c .before .before .loop-test .taken) (c .before .gather .ensures) (c .share-of .ensures)
+loop-again c = pass-more _ _ _ (c .before .before .before .before .before .before .before .pre .1 .0) (c .before .before .before .loop .inv) (c .before .before .loop-test .taken) (c .before .gather .ensures) (c .owned-share .ensures)
 
 add-sum : tie.Need-add-sum Inv-loop μ-loop
 add-sum c = let pre = c .before .before .before .before .before .before .before .pre in omega (arith, pass-small _ _ _ (pre .1 .0) (pre .1 .1) (loop-again c))
@@ -45,7 +45,7 @@ part-sum-spec =
     returns
     loop-holds
     gather-requires
-    share-of-requires
+    owned-share-requires
     add-sum
     loop-less
     loop-again

@@ -1,27 +1,28 @@
 -- `totals::divisors::constraints` meets its contract. The invariant: no constraint so far is refused. The measure is what is left. Assumes nothing.
 use Prim.Native.Nat.{_≤_, _-_}
-use mathlib.Core.Path.{_≡_, ap}
-use mathlib.Core.Bool.{Bool, not}
+use mathlib.Core.Path.{_≡_}
 use native.Mathlib.Omega.{arith}
 use borrow.Author.Needs.{needs}
-use borrow.Author.Tests.{eq-eqb, ne-eqb}
 use Rattle.sections.specs.First.{firstBad}
 use Rattle.sections.specs.declared.Checked.the-variants.{Good}
 use Rattle.sections.proofs.First.{first-none, first-more, first-stop, first-all}
 use Rattle.records.specs.Rows.{entryRow, constraintRow}
 use Rattle.totals.specs.Divisors.{constraintDivides}
-use Rattle.totals.proofs.Turns.{totals-rule, divides-at}
+use Rattle.totals.proofs.Bits.{divides-at}
 use Rattle.totals.proofs.divisors.constraints.Statement.{statement}
 use Rattle.totals.proofs.divisors.constraints.Tie as tie
 
 abbrev Inv-loop : tie.InvT-loop
-Inv-loop regions cons n t j₀ j = (j ≤ n) × (firstBad (constraintDivides (entryRow regions) (constraintRow cons)) j ≡ Good)
+Inv-loop regions cons n live j₀ j = (j ≤ n) × (firstBad (constraintDivides (entryRow regions) (constraintRow cons)) j ≡ Good)
 
 abbrev μ-loop : tie.MeasureT-loop
-μ-loop regions cons n t j₀ j = n - j
+μ-loop regions cons n live j₀ j = n - j
 
 totals-of-requires : tie.Need-totals-of-requires Inv-loop μ-loop
 totals-of-requires c κs = search needs
+
+live-of-requires : tie.Need-live-of-requires Inv-loop μ-loop
+live-of-requires c κs = search needs
 
 loop-holds : tie.Need-loop-holds Inv-loop μ-loop
 loop-holds c = (search needs, first-none _)
@@ -29,14 +30,16 @@ loop-holds c = (search needs, first-none _)
 constraint-row-requires : tie.Need-constraint-row-requires Inv-loop μ-loop
 constraint-row-requires c κs = search needs
 
-over-regions-requires : tie.Need-over-regions-requires Inv-loop μ-loop
-over-regions-requires c κs = totals-rule (c .before .before .before .totals-of .result) _ (c .before .before .before .totals-of .ensures) (c .before .before .before .before .before .before .pre .1)
+divides-requires : tie.Need-divides-requires Inv-loop μ-loop
+divides-requires c κs = search needs
 
 returns : tie.Need-returns Inv-loop μ-loop
 returns c =
-    first-stop _ _ _ (c .before .before .before .before .loop .inv .1)
-    (divides-at (c .before .before .before .before .before .totals-of .result) _ (c .before .before .before .before .before .totals-of .ensures) _ _ (c .before .before .constraint-row .ensures) (c .before .over-regions .ensures))
-    (ap (λ (b : Bool). not (not b)) (eq-eqb _ 0 (c .if1 .taken)))
+    let l = c .before .before .before .before in
+    let s = l .before in
+    first-stop _ _ _ (l .loop .inv .1)
+    (divides-at (s .before .totals-of .result) _ (s .before .totals-of .ensures) (s .live-of .ensures) _ _ (c .before .before .constraint-row .ensures) (c .before .divides .ensures))
+    (c .if1 .taken)
     (search needs)
 
 add-j : tie.Need-add-j Inv-loop μ-loop
@@ -46,12 +49,14 @@ loop-less : tie.Need-loop-less Inv-loop μ-loop
 loop-less c = search needs
 
 loop-again : tie.Need-loop-again Inv-loop μ-loop
-loop-again c = (
-  search needs,
-  first-more _ _ (c .before .before .before .before .loop .inv .1)
-      (divides-at (c .before .before .before .before .before .totals-of .result) _ (c .before .before .before .before .before .totals-of .ensures) _ _ (c .before .before .constraint-row .ensures) (c .before .over-regions .ensures))
-      (ap (λ (b : Bool). not (not b)) (ne-eqb _ 0 (c .if1 .left))),
-)
+loop-again c =
+    let l = c .before .before .before .before in
+    let s = l .before in (
+      search needs,
+      first-more _ _ (l .loop .inv .1)
+          (divides-at (s .before .totals-of .result) _ (s .before .totals-of .ensures) (s .live-of .ensures) _ _ (c .before .before .constraint-row .ensures) (c .before .divides .ensures))
+          (c .if1 .left),
+    )
 
 returns-2 : tie.Need-returns-2 Inv-loop μ-loop
 returns-2 c = first-all _ _ _ (c .before .loop .inv .1) (omega arith)
@@ -63,9 +68,10 @@ constraints-spec =
     Inv-loop
     μ-loop
     totals-of-requires
+    live-of-requires
     loop-holds
     constraint-row-requires
-    over-regions-requires
+    divides-requires
     returns
     add-j
     loop-less
