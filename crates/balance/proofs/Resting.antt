@@ -5,20 +5,22 @@ use mathlib.Core.List.{List}
 use lib.IntN.{ℤ, pos}
 use lib.ListN.{length}
 use Rattle.ground.specs.Bytes.{partFrom}
+use Rattle.ground.specs.Units.{moneyLimit}
 use Rattle.numbers.specs.Sign.{less}
 use Rattle.records.specs.Rows.{unitRow, energyRow}
 use Rattle.rules.specs.Inner.Facts.{ConstraintRule}
 use Rattle.records.specs.declared.rows.Constraint.{Constraint}
 use Rattle.records.specs.declared.rows.Contract.{Contract}
 use Rattle.totals.specs.Divisors.{overRegions}
-use Rattle.totals.specs.Inner.Energies.{Energies, energiesIn}
+use Rattle.totals.specs.Inner.Energies.{Energies, energiesIn, PartLaid, EnergiesSound}
 use Rattle.totals.specs.declared.entries.EnergyPart.{EnergyPart}
 use Rattle.book.specs.Book.{Book, bookIn}
 use Rattle.book.specs.Header.{unitsFrom, energiesFrom}
+use Rattle.book.specs.Inner.Facts.{Laid}
 use Rattle.book.specs.Inner.Accepted.{Promise}
 use Rattle.book.specs.declared.header.Header.{Header}
 use Rattle.accounts.specs.Inner.Energies.{energiesOf, PartOf}
-use Rattle.accounts.proofs.Parts.{sound-of, part-energies}
+use Rattle.accounts.proofs.Parts.{sound-of, part-energies, part-laid, part-sound}
 use Rattle.sharing.specs.Accounts.{accountsIn}
 use Rattle.sharing.specs.Inner.Shares.{Sorted}
 use Rattle.recovery.specs.Inner.Shapes.{recoveryOf}
@@ -53,6 +55,11 @@ module _ {B : Book} (p : Promise B) (r : Constraint) (o : OfConstraint B r) wher
 
   pub constraint-divides : 0 < overRegions (B .entry) r
   constraint-divides = rw (o .same) (p .divisor (o .place) (o .within))
+
+-- what sharing over its regions asks, where p is the book's energies as a part of its bytes
+module _ (b : List ℕ) (h : Header) (p : EnergyPart) (q : PartOf h p) (d : Laid b h) (k : Promise (bookIn b h)) (r : Constraint) (o : OfConstraint (bookIn b h) r) where
+  pub shares-over : (whole amount : ℕ) → whole ≡ overRegions (bookIn b h .entry) r → amount ≤ moneyLimit → PartLaid (partFrom 24 b) p × (EnergiesSound (energiesIn (partFrom 24 b) p) × ((whole ≡ overRegions (energiesIn (partFrom 24 b) p .entry) r) × ((0 < whole) × (amount ≤ moneyLimit))))
+  shares-over whole amount w l = (part-laid b h p q d, (part-sound b h p q (k .sound), (w, (rw w (constraint-divides k r o), l))))
 
 -- ---- the balance of each kind of pool
 

@@ -5,8 +5,7 @@ use borrow.Author.Needs.{needs, sfits-of}
 use mir.Facts.{toZ-ofZ}
 use Rattle.book.proofs.Room.{units-room}
 use Rattle.book.specs.Book.{bookIn}
-use Rattle.accounts.proofs.Parts.{part-laid, part-sound}
-use Rattle.balance.proofs.Resting.{constraint-rule, constraint-divides, part-in, regulation-is}
+use Rattle.balance.proofs.Resting.{constraint-rule, shares-over, part-in, regulation-is}
 use Rattle.recovery.proofs.Sharing.{recovery-small}
 use Rattle.balance.proofs.pools.regulation.Statement.{statement}
 use Rattle.balance.proofs.pools.regulation.Tie as tie
@@ -53,19 +52,22 @@ divisor-requires c κs = search needs
 
 over-regions-requires : tie.Need-over-regions-requires
 over-regions-requires c κs =
-    let turn = c in
-    let start = turn .before .before .before .before .before .before .before .before .before in
-    let e = turn .before .part-of .ensures in
-    let rule = constraint-rule (start .pre .1 .0) _ (start .pre .1 .1 .0) in
-    (part-laid (start .args .book .now) (start .args .h) _ e (start .pre .0), (part-sound (start .args .book .now) (start .args .h) _ e (start .pre .1 .0 .sound), (turn .divisor .ensures, (rw (turn .divisor .ensures) (constraint-divides (start .pre .1 .0) _ (start .pre .1 .1 .0)), recovery-small _ _ rule (turn .before .before .before .before .before .before .before .recovery-of .ensures) .credit))))
+    let recovered = c .before .before .before .before .before .before .before in
+    let start = recovered .before .before in
+    let o = start .pre .1 .1 .0 in
+    shares-over (start .args .book .now) (start .args .h) _ (c .before .part-of .ensures) (start .pre .0) (start .pre .1 .0) _ o _ _
+    (c .divisor .ensures)
+    (recovery-small _ _ (constraint-rule (start .pre .1 .0) _ o) (recovered .recovery-of .ensures) .credit)
 
 over-regions-requires-2 : tie.Need-over-regions-requires-2
 over-regions-requires-2 c κs =
-    let turn = c .before in
-    let start = turn .before .before .before .before .before .before .before .before .before in
-    let e = turn .before .part-of .ensures in
-    let rule = constraint-rule (start .pre .1 .0) _ (start .pre .1 .1 .0) in
-    (part-laid (start .args .book .now) (start .args .h) _ e (start .pre .0), (part-sound (start .args .book .now) (start .args .h) _ e (start .pre .1 .0 .sound), (turn .divisor .ensures, (rw (turn .divisor .ensures) (constraint-divides (start .pre .1 .0) _ (start .pre .1 .1 .0)), recovery-small _ _ rule (turn .before .before .before .before .before .before .before .recovery-of .ensures) .charge))))
+    let whole = c .before in
+    let recovered = whole .before .before .before .before .before .before .before in
+    let start = recovered .before .before in
+    let o = start .pre .1 .1 .0 in
+    shares-over (start .args .book .now) (start .args .h) _ (whole .before .part-of .ensures) (start .pre .0) (start .pre .1 .0) _ o _ _
+    (whole .divisor .ensures)
+    (recovery-small _ _ (constraint-rule (start .pre .1 .0) _ o) (recovered .recovery-of .ensures) .charge)
 
 signed-requires : tie.Need-signed-requires
 signed-requires c κs = let start = c .before .before .before .before .before .before .before .before .before .before .before in omega (arith, recovery-small _ _ (constraint-rule (start .pre .1 .0) _ (start .pre .1 .1 .0)) (c .before .before .before .before .before .before .before .before .before .recovery-of .ensures) .amount)
