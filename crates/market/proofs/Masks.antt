@@ -1,6 +1,6 @@
 -- Masks of regions, one bit each. Assumes nothing.
 use Prim.Native.Nat.{ℕ, zero, suc, _+_, _*_, _/_, _%_, _^_, _<_}
-use mathlib.Core.Path.{_≡_, refl, sym, ap, ap₂, subst, _∙_}
+use mathlib.Core.Path.{_≡_, sym, ap, ap₂, _∙_}
 use mathlib.Core.Bool.{cond}
 use native.Mathlib.Nat.{zero-lt-suc, mod-lt, zero-mul, one-mul, zero-add, add-comm, not-suc-le-zero, le-of-suc-le-suc}
 use lib.Bits.{bitAnd, and-block, and-mask, and-zero-r}

@@ -1,6 +1,6 @@
 -- Check 10 of a constraint by bits: its total is 0 exactly where none of its regions is among those that have energy. Assumes nothing.
 use Prim.Native.Nat.{ℕ, zero, suc, _+_, _≤_, _<_, _^_}
-use mathlib.Core.Path.{_≡_, refl, sym, ap, ap₂, subst, _∙_}
+use mathlib.Core.Path.{_≡_, refl, sym, ap, _∙_}
 use mathlib.Core.Bool.{Bool, true, false, _&&_, not, cond, and-true}
 use native.Mathlib.Omega.{arith}
 use native.Mathlib.Nat.{add-zero, pow-suc, le-trans}
@@ -35,6 +35,11 @@ bit-small energy g = by (eqb energy 0)
 pub bit-room : (energy g : ℕ) → g < 5 → bitWith energy g ≤ 16
 bit-room energy g l = le-trans (bit-small energy g) (five (λ k. 2 ^ k ≤ 16) (omega arith) (omega arith) (omega arith) (omega arith) (omega arith) g l)
 
+-- two numbers that are not 0: what is there of either is 0 together
+both-or-none : (t : Bool) (x y : ℕ) → eqb x 0 ≡ false → eqb y 0 ≡ false → eqb (cond t x 0) 0 ≡ eqb (cond t y 0) 0
+both-or-none true x y e q = e ∙ sym q
+both-or-none false x y e q = refl
+
 module _ (mask : ℕ) (energy : ℕ → ℕ) where
   -- the bits of n regions are n bits
   bits-below : (n : ℕ) → regionsWith energy n < 2 ^ n
@@ -47,17 +52,14 @@ module _ (mask : ℕ) (energy : ℕ → ℕ) where
   counts g = cond (bitSet mask g) (energy g) 0
 
   -- a region's bit is in common with the mask exactly where the region counts
-  same-sign : (t : Bool) (x y : ℕ) → eqb x 0 ≡ false → eqb y 0 ≡ false → eqb (cond t x 0) 0 ≡ eqb (cond t y 0) 0
-  same-sign true x y e q = e ∙ sym q
-  same-sign false x y e q = refl
-
   one-more : (n : ℕ) (t : Bool) → eqb (energy n) 0 ≡ t → eqb (bitAnd mask (regionsWith energy n + cond t 0 (2 ^ n))) 0 ≡ eqb (bitAnd mask (regionsWith energy n)) 0 && eqb (counts n) 0
   one-more n true e = rw (add-zero, eqb-true (energy n) 0 e, cond-same {A = ℕ} (bitSet mask n) 0) (sym (and-true (eqb (bitAnd mask (regionsWith energy n)) 0)))
   one-more n false e =
       ap (λ (x : ℕ). eqb x 0) (one-bit-more mask n (regionsWith energy n) (bits-below n))
       ∙ sum-nil (bitAnd mask (regionsWith energy n)) (cond (bitSet mask n) (2 ^ n) 0)
-      ∙ ap (λ (b : Bool). eqb (bitAnd mask (regionsWith energy n)) 0 && b) (same-sign (bitSet mask n) (2 ^ n) (energy n) (ne-eqb (2 ^ n) 0 (λ (q : 2 ^ n ≡ 0). omega (arith, pow-pos n))) e)
+      ∙ ap (λ (b : Bool). eqb (bitAnd mask (regionsWith energy n)) 0 && b) (both-or-none (bitSet mask n) (2 ^ n) (energy n) (ne-eqb (2 ^ n) 0 (λ (q : 2 ^ n ≡ 0). omega (arith, pow-pos n))) e)
 
+  -- so the mask has nothing in common with the regions that have energy exactly where its own come to 0
   none-common : (n : ℕ) → eqb (bitAnd mask (regionsWith energy n)) 0 ≡ eqb (total counts n) 0
   unfolding total bitWith
   none-common zero = ap (λ (x : ℕ). eqb x 0) (and-zero-r mask)

@@ -42,6 +42,7 @@ fn regions_with(energy: [u64; 5]) -> u64
     bits
 }
 
+// Of all five regions, once for a book.
 pub(crate) fn live_of(t: Totals) -> Live
     ensures { λ x. ⌜ LiveIs (entryOf t) x ⌝ }
 {
