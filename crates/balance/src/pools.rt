@@ -23,7 +23,6 @@ use recovery::kinds;
 use recovery::kinds::Kind;
 use recovery::regions;
 use recovery::units;
-use totals::divisors;
 use totals::entries::EnergyPart;
 
 // How many accounts the book has.

@@ -11,7 +11,6 @@ use factors::sums;
 use section_check::Check;
 use section_check::section;
 use sections::Verdict;
-use totals::divisors;
 use totals::entries;
 
 // 5: a field outside the rules.
@@ -114,8 +113,8 @@ pub fn zero_totals(book: &[u8], h: Header) -> Verdict
     ensures { λ v. ⌜ v ≡ check10 (bookIn (now (book .entry)) h) ⌝ }
 {
     let contracts = h.contracts_at();
-    let shared = divisors::constraints(&book[24..], &book[84..], h.constraints as usize);
-    let paid = divisors::contracts(&book[24..], &book[contracts..], h.contracts as usize);
+    let shared = divisor_check::constraints(&book[24..], &book[84..], h.constraints as usize);
+    let paid = divisor_check::contracts(&book[24..], &book[contracts..], h.contracts as usize);
     sections::earlier(
         sections::at_record(10, 84, 40, shared),
         sections::at_record(10, contracts, 36, paid),

@@ -27,7 +27,6 @@ use records::rows;
 use records::rows::Constraint;
 use records::rows::UnitRow;
 use statement::Line;
-use totals::divisors;
 use totals::entries::Totals;
 
 // Whose line is asked for, at which unit row the search stands, and what is left of the number.

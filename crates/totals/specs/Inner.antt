@@ -3,4 +3,3 @@ pub mod Facts
 pub mod Turns
 pub mod Totals
 pub mod Energies
-pub mod Live

@@ -10,7 +10,6 @@ ghost use Rattle.book.specs.Book.{bookIn};
 ghost use Rattle.book.specs.Inner.Facts.{Laid};
 use book::header::Header;
 use records::rows;
-use totals::divisors;
 use totals::entries::Totals;
 use units::Cursor;
 use units::Share;

@@ -1,0 +1,17 @@
+-- `divisors::divisor` meets its contract: the entries that were read are those of the book. Assumes nothing.
+use borrow.Author.Needs.{needs}
+use Rattle.totals.proofs.Turns.{totals-rule, divisor-read}
+use Rattle.divisors.proofs.divisor.Statement.{statement}
+use Rattle.divisors.proofs.divisor.Tie as tie
+
+totals-of-requires : tie.Need-totals-of-requires
+totals-of-requires c κs = search needs
+
+over-regions-requires : tie.Need-over-regions-requires
+over-regions-requires c κs = totals-rule (c .totals-of .result) _ (c .totals-of .ensures) (c .before .before .pre .1)
+
+returns : tie.Need-returns
+returns c = divisor-read (c .before .totals-of .result) _ (c .before .totals-of .ensures) _ (c .over-regions .ensures)
+
+pub divisor-spec : {M : Type 1} → statement M
+divisor-spec = tie.close (tie.spec totals-of-requires over-regions-requires returns)
