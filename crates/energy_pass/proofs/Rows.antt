@@ -1,18 +1,15 @@
--- What the tests of one energy row and of one region entry are, and what it says of a row's order that its key is larger. Assumes nothing.
+-- What the tests of one energy row and of one region entry are. Assumes nothing.
 use Prim.Native.Nat.{ℕ, _+_, _*_, _≤_, _<_}
-use mathlib.Core.Path.{_≡_, refl, ap, _∙_}
-use mathlib.Core.Bool.{Bool, true, false, _||_, _&&_}
+use mathlib.Core.Path.{_≡_, ap, _∙_}
+use mathlib.Core.Bool.{Bool, true}
 use mathlib.Core.List.{List, [], _∷_}
-use mathlib.Core.Logic.{⊎-elim}
 use native.Mathlib.Omega.{arith}
 use borrow.Author.Tests.{ltb-true, leb-true, eqb-true, lt-ltb, le-leb, eq-eqb}
 use lib.Dec.{eqb, leb, ltb}
 use Rattle.ground.specs.Bytes.{byteAt, u32Of, u32At}
 use Rattle.ground.specs.Every.{allOf}
 use Rattle.ground.proofs.Every.{every, all}
-use Rattle.sections.specs.Order.{pairBelow}
 use Rattle.sections.proofs.Cases.{same-answer}
-use Rattle.sections.proofs.Search.{lt-or-ge}
 use Rattle.records.specs.Rows.{energyRow}
 use Rattle.rules.specs.Rules.{energyTests, energyOk}
 use Rattle.records.specs.declared.rows.Entry.{Entry}
@@ -117,29 +114,3 @@ from-fields r e =
 -- the test of the entry that was read
 pub entry-holds : (t : Totals) (g : ℕ) {e d : Entry} {b : Bool} → d ≡ e → b ≡ entryIs d (sumAt t g) → b ≡ entryIs e (sumAt t g)
 entry-holds t g q s = s ∙ ap (λ (e : Entry). entryIs e (sumAt t g)) q
-
--- ---- two rows
-
--- where keys rise, pairs of account and region do
-pub pair-below : (a x b y : ℕ) → a * 4_294_967_296 + x < b * 4_294_967_296 + y → y ≤ 4 → pairBelow a x b y ≡ true
-pair-below a x b y l h =
-    ⊎-elim
-    (λ (p : a < b). rw (lt-ltb a b p) refl)
-    (λ (p : b ≤ a). let e : a ≡ b = omega arith in rw (eq-eqb a b e, lt-ltb x y (omega arith)) (either (ltb a b)))
-    (lt-or-ge a b)
-  where
-    either : (t : Bool) → (t || true) ≡ true
-    either true = refl
-    either false = refl
-
--- and back
-pub below-pair : (a x b y : ℕ) → pairBelow a x b y ≡ true → x ≤ 4 → a * 4_294_967_296 + x < b * 4_294_967_296 + y
-below-pair a x b y e h = by (ltb a b) refl e
-  where
-    by : (t : Bool) → ltb a b ≡ t → (t || (eqb a b && ltb x y)) ≡ true → a * 4_294_967_296 + x < b * 4_294_967_296 + y
-    by true q e = let l = ltb-true a b q in omega arith
-    by false q e =
-        let k = every (eqb a b ∷ ltb x y ∷ []) e in
-        let same = eqb-true a b (k .0) in
-        let up = ltb-true x y (k .1 .0) in
-        omega arith

@@ -14,7 +14,7 @@ use Rattle.ground.proofs.Every.{every, all}
 use Rattle.sections.specs.Order.{risesBy}
 use Rattle.sections.specs.Inner.Walk.{Split}
 use Rattle.sections.proofs.Cases.{same-answer, no-yes}
-use Rattle.sections.proofs.Order.{rises-first, rises-later, rises-step}
+use Rattle.sections.proofs.Order.{rises-first, rises-later, rises-step, key-below, below-key}
 use Rattle.sections.proofs.Search.{lt-or-ge}
 use Rattle.market.specs.declared.Basis.{Basis}
 use Rattle.market.specs.declared.Basis.the-variants.{Ace, Asoe, Residual}
@@ -25,7 +25,7 @@ use Rattle.totals.specs.Inner.Turns.{TotalsOf, SumRoom, Added}
 use Rattle.totals.specs.declared.entries.Totals.{Totals}
 use Rattle.totals.proofs.Turns.{totals-are, sums-room, totals-none, totals-more}
 use Rattle.energy_pass.specs.Inner.Energies.{accountRegion, rowHolds, rowKeeps, SummedIs}
-use Rattle.energy_pass.proofs.Rows.{RowHolds, row-says, row-said, pair-below, below-pair}
+use Rattle.energy_pass.proofs.Rows.{RowHolds, row-says, row-said}
 
 -- a row that holds after some key holds after each smaller one
 after : (a b : ℕ) {r : EnergyRow} → a ≤ b → RowHolds b r → RowHolds a r
@@ -104,7 +104,7 @@ module _ (energy : ℕ → EnergyRow) where
               (λ (e : i ≡ 0). sym (rises-first energyBelow energy i e))
               (λ (l : 0 < i). let no : i ≡ 0 → ⊥ = λ (e : i ≡ 0). omega arith in
               let k = s .last no in
-              sym (rises-later energyBelow energy i no refl refl (sym (pair-below (energy (i - 1) .account) (energy (i - 1) .region) (energy i .account) (energy i .region) (omega (arith, h .above)) (h .region)))))
+              sym (rises-later energyBelow energy i no refl refl (sym (key-below 4_294_967_296 (energy (i - 1) .account) (energy (i - 1) .region) (energy i .account) (energy i .region) (omega (arith, h .region)) (omega (arith, h .above))))))
               (eq-zero-or-pos i)
 
       back : rowKeeps energy i ≡ true → rowHolds before (energy i) ≡ true
@@ -117,7 +117,7 @@ module _ (energy : ℕ → EnergyRow) where
           step k q o =
               let up : suc k ≡ i = omega arith in
               let p = rises-step energyBelow energy k (rw (← up) at o) in
-              rw (← up) (below-pair (energy k .account) (energy k .region) (energy (suc k) .account) (energy (suc k) .region) p (keeps-says k (s .each k (omega arith)) .fields .region))
+              rw (← up) (below-key 4_294_967_296 (energy k .account) (energy k .region) (energy (suc k) .account) (energy (suc k) .region) (omega (arith, keeps-says k (s .each k (omega arith)) .fields .region)) p)
 
           over : RowKeeps i → before < accountRegion (energy i)
           over h =

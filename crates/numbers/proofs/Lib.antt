@@ -2,3 +2,4 @@ pub mod Bits
 pub mod Signs
 pub mod Rounding
 pub mod Sizes
+pub mod Products

@@ -1,10 +1,11 @@
 // The rules of each record's fields: check 5. Tests are joined by `&` and `|`, as the definitions are.
 ghost use mathlib.Core.Path.{_≡_};
-ghost use Prim.Native.Nat.{_+_, _*_};
+ghost use Prim.Native.Nat.{_+_};
 ghost use Rattle.rules.specs.Rules.{entryOk, termsOk, noTerms, modeFits, constraintOk, unitOk, energyOk, sharesOk, contractOk};
 use market::Mode;
 use market::Region;
 use market::Service;
+use numbers::wide;
 use records::rows::Constraint;
 use records::rows::Contract;
 use records::rows::EnergyRow;
@@ -15,13 +16,6 @@ pub fn entry_ok(r: Entry) -> bool
     ensures { λ b. ⌜ b ≡ entryOk r ⌝ }
 {
     (r.ace <= 20_000_000) & (r.asoe <= 20_000_000) & (r.residual <= 20_000_000)
-}
-
-// The whole product of two numbers.
-fn product(a: u32, b: u32) -> u64
-    ensures { λ r. ⌜ r ≡ a * b ⌝ }
-{
-    (a as u64) * (b as u64)
 }
 
 // A factored constraint's price, response and usage are in range. Other modes have none to look at.
@@ -39,7 +33,7 @@ fn terms_ok(mode: Mode) -> bool
     (price <= 2_500_000)
         & (response <= 10_000_000)
         & (usage <= 1_000_000)
-        & (product(price, response) <= 6_000_000_000_000)
+        & (wide::product(price, response) <= 6_000_000_000_000)
 }
 
 fn no_terms(r: Constraint) -> bool
