@@ -1,6 +1,7 @@
 /*
  * Fervolatro: the checks of a book of one five-minute trading interval, the
- * statement of one account, the balance of a pool, and statements read back.
+ * statement of one account, the balance of a pool, statements read back, and
+ * the payments and base costs that dispatch rows make.
  *
  * A call reads the bytes it is lent and writes at most the buffer it is lent:
  * it keeps nothing from one call to the next, and needs no preparation and no
@@ -33,9 +34,9 @@
 /* The version of the library that this header belongs to. Whole numbers and
  * their text say the same. */
 #define FERVOLATRO_VERSION_MAJOR 0
-#define FERVOLATRO_VERSION_MINOR 1
+#define FERVOLATRO_VERSION_MINOR 2
 #define FERVOLATRO_VERSION_PATCH 0
-#define FERVOLATRO_VERSION "0.1.0"
+#define FERVOLATRO_VERSION "0.2.0"
 
 /* How many bytes each record of a book has, in the order of the book. */
 #define FERVOLATRO_BOOK_HEADER_SIZE 24
@@ -63,8 +64,20 @@
 #define FERVOLATRO_LARGEST_BOOK 39796
 #define FERVOLATRO_LARGEST_STATEMENT 51672
 
+/* The bytes of a dispatch row. Rows come in a slice of their own, any number of
+ * them. */
+#define FERVOLATRO_DISPATCH_ROW_SIZE 16
+
+/* The most that a dispatch row's price can be, in cents per MWh, its
+ * enablement, in hundredths of a MW, and the product of the two, which needs 64
+ * bits. */
+#define FERVOLATRO_MOST_PRICE 2500000
+#define FERVOLATRO_MOST_ENABLEMENT 1000000
+#define FERVOLATRO_MOST_PRODUCT 600000000000LL
+
 /* The most that a cost, a payment or a line can be, either way, in ten-
- * thousandths of a dollar. It needs 64 bits. */
+ * thousandths of a dollar, and so a sum over dispatch rows. It needs 64
+ * bits. */
 #define FERVOLATRO_LIMIT 50000000000LL
 
 /* What an answer's field refusal says; the calls below say which of these each
@@ -100,7 +113,10 @@ enum {
     /* The bytes are not a statement. */
     FERVOLATRO_REFUSED_NO_STATEMENT = 14,
     /* The number of a pool or of a line is past the end. */
-    FERVOLATRO_REFUSED_PAST_END = 15
+    FERVOLATRO_REFUSED_PAST_END = 15,
+    /* A dispatch row is cut short, out of range or not rising, has a product
+     * above FERVOLATRO_MOST_PRODUCT or takes a sum past FERVOLATRO_LIMIT. */
+    FERVOLATRO_REFUSED_DISPATCH_ROW = 16
 };
 
 /* What a line of a statement is for. ACE is the energy consumed, ASOE the
@@ -118,7 +134,7 @@ enum {
     FERVOLATRO_PART_CONTRACT_ASOE = 10
 };
 
-/* The service of a constraint. */
+/* The service of a constraint or of a dispatch row. */
 enum {
     FERVOLATRO_SERVICE_VERY_FAST_RAISE = 1,
     FERVOLATRO_SERVICE_VERY_FAST_LOWER = 2,
@@ -132,8 +148,8 @@ enum {
     FERVOLATRO_SERVICE_REGULATION_LOWER = 10
 };
 
-/* The region of an energy row, and the place of a region's entry and of its
- * benefit factor. */
+/* The region of an energy row or of a dispatch row, and the place of a region's
+ * entry and of its benefit factor. */
 enum {
     FERVOLATRO_REGION_NSW1 = 0,
     FERVOLATRO_REGION_QLD1 = 1,
@@ -468,6 +484,84 @@ fervolatro_written fervolatro_lines(const uint8_t *statement,
 fervolatro_written fervolatro_rewrite(const uint8_t *statement,
                                       size_t statement_len, uint8_t *buffer,
                                       size_t buffer_len);
+
+/*
+ * The answer of fervolatro_payment and of fervolatro_base_cost.
+ *
+ * refusal  0 if no row is refused, else 16.
+ * place    where the refused row begins, in bytes from the start of the rows;
+ *          0 if no row is refused.
+ * amount   what the rows make, in ten-thousandths of a dollar, 0 to
+ *          50,000,000,000; 0 if the call is refused.
+ */
+typedef struct {
+    uint64_t refusal;
+    uint64_t place;
+    uint64_t amount;
+} fervolatro_cost;
+
+/*
+ * Makes the payment of one service: the sum over its payment rows of price x
+ * enablement / 12, rounded row by row to the nearest whole number, halves up.
+ *
+ *   No  Given exactly when                              Place
+ *    0  no row is refused                               0
+ *   16  a row is cut short, out of range, not rising,   the first such row's
+ *       has a product above 600,000,000,000 or takes    offset
+ *       a sum past 50,000,000,000
+ *
+ * Dispatch rows stand one behind the other, any number of them, also none. A
+ * row has 16 bytes, its numbers are little-endian:
+ *
+ *   At  Field                                           Range
+ *    0  id, u32: 0 in a payment row, else the id of     any
+ *       a constraint
+ *    4  service, u8                                     1 to 10
+ *    5  region, u8                                      0 to 4
+ *    6  reserved, u16                                   0
+ *    8  price, u32, in cents per MWh: the marginal      0 to 2,500,000
+ *       value where the id is a constraint's
+ *   12  enablement, u32, in hundredths of a MW          0 to 1,000,000
+ *
+ * A last piece of 1 to 15 bytes is a row cut short. Rows rise strictly by id,
+ * then service, then region. A product is the row's own price x enablement, a
+ * sum that of its own id and service over the rows up to it and with it. The
+ * whole slice is checked, whatever is asked for.
+ *
+ * The amount is 0 for a service that no payment row has, also for one that is
+ * not 1 to 10.
+ *
+ * rows      the first of rows_len readable bytes.
+ * rows_len  how many bytes are lent.
+ * service   any number.
+ */
+fervolatro_cost fervolatro_payment(const uint8_t *rows, size_t rows_len,
+                                   uint64_t service);
+
+/*
+ * Makes the base cost of one constraint in one service: the sum over the rows
+ * of that id and service of marginal value x enablement / 12, rounded row by
+ * row to the nearest whole number, halves up.
+ *
+ *   No  Given exactly when                              Place
+ *    0  no row is refused                               0
+ *   16  a row is cut short, out of range, not rising,   the first such row's
+ *       has a product above 600,000,000,000 or takes    offset
+ *       a sum past 50,000,000,000
+ *
+ * The rows are those of fervolatro_payment. The whole slice is checked,
+ * whatever is asked for.
+ *
+ * The amount is 0 for an id and a service that no row has together, and for id
+ * 0: payment rows are no constraint's cost.
+ *
+ * rows      the first of rows_len readable bytes.
+ * rows_len  how many bytes are lent.
+ * id        any number.
+ * service   any number.
+ */
+fervolatro_cost fervolatro_base_cost(const uint8_t *rows, size_t rows_len,
+                                     uint32_t id, uint64_t service);
 
 #ifdef __cplusplus
 }

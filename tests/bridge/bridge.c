@@ -10,7 +10,9 @@
  *   'h', the statement: the answer is fervolatro_heading, field by field;
  *   'l', the statement, a u64 index: the answer is fervolatro_entry, field by field;
  *   'a', the statement, the buffer: of fervolatro_lines; the answer is as for 's';
- *   'r', the statement, the buffer: the answer is as for 's'.
+ *   'r', the statement, the buffer: the answer is as for 's';
+ *   'p', the rows, a u64 service: the answer is fervolatro_cost, field by field;
+ *   'k', the rows, a u32 id, a u64 service: of fervolatro_base_cost; the answer is as for 'p'.
  * All numbers are little-endian, as both sides are. The end of the input ends the program.
  *
  * A lent buffer stands between guard bytes. If a call changes one of them, the program says so and
@@ -178,6 +180,32 @@ static void rewrite(void)
                  &buffer);
 }
 
+static void make_payment(void)
+{
+    static slice rows;
+    uint64_t service;
+    fervolatro_cost cost;
+
+    take_slice(&rows);
+    take(&service, sizeof service);
+    cost = fervolatro_payment(rows.bytes, rows.len, service);
+    give(&cost, sizeof cost);
+}
+
+static void make_base_cost(void)
+{
+    static slice rows;
+    uint32_t id;
+    uint64_t service;
+    fervolatro_cost cost;
+
+    take_slice(&rows);
+    take(&id, sizeof id);
+    take(&service, sizeof service);
+    cost = fervolatro_base_cost(rows.bytes, rows.len, id, service);
+    give(&cost, sizeof cost);
+}
+
 int main(void)
 {
     int call;
@@ -204,6 +232,12 @@ int main(void)
             break;
         case 'r':
             rewrite();
+            break;
+        case 'p':
+            make_payment();
+            break;
+        case 'k':
+            make_base_cost();
             break;
         default:
             fail("no such call");

@@ -1,7 +1,7 @@
 /*
- * Calls the library from C, through its header, on a few books and statements
- * whose answers are known. The path of the worked book is the one argument.
- * Exits non-zero with a message if an answer is not the expected one.
+ * Calls the library from C, through its header, on a few books, statements and
+ * dispatch rows whose answers are known. The path of the worked book is the one
+ * argument. Exits non-zero with a message if an answer is not the expected one.
  */
 #include <inttypes.h>
 #include <stdio.h>
@@ -110,7 +110,7 @@ static void expect_rewritten(const char *name, const uint8_t *statement,
 
 /* The other answers are alike in this: fields of 64 bits, with nothing between
  * them. */
-enum { HEADING_FIELDS = 7, ENTRY_FIELDS = 7, POOL_FIELDS = 5 };
+enum { HEADING_FIELDS = 7, ENTRY_FIELDS = 7, POOL_FIELDS = 5, COST_FIELDS = 3 };
 
 _Static_assert(sizeof(fervolatro_heading) == HEADING_FIELDS * sizeof(uint64_t),
                "a heading has seven fields");
@@ -118,6 +118,8 @@ _Static_assert(sizeof(fervolatro_entry) == ENTRY_FIELDS * sizeof(uint64_t),
                "an entry has seven fields");
 _Static_assert(sizeof(fervolatro_pool) == POOL_FIELDS * sizeof(uint64_t),
                "a pool has five fields");
+_Static_assert(sizeof(fervolatro_cost) == COST_FIELDS * sizeof(uint64_t),
+               "a cost has three fields");
 
 static uint64_t field(const void *answer, size_t at)
 {
@@ -164,6 +166,23 @@ static void expect_line(const char *name, const uint8_t *statement, size_t len,
     fervolatro_entry got = fervolatro_line(statement, len, index);
 
     expect_fields(name, ENTRY_FIELDS, &got, &expected);
+}
+
+static void expect_payment(const char *name, const uint8_t *rows, size_t len,
+                           uint64_t service, fervolatro_cost expected)
+{
+    fervolatro_cost got = fervolatro_payment(rows, len, service);
+
+    expect_fields(name, COST_FIELDS, &got, &expected);
+}
+
+static void expect_base_cost(const char *name, const uint8_t *rows, size_t len,
+                             uint32_t id, uint64_t service,
+                             fervolatro_cost expected)
+{
+    fervolatro_cost got = fervolatro_base_cost(rows, len, id, service);
+
+    expect_fields(name, COST_FIELDS, &got, &expected);
 }
 
 /* The statement of account 7 in the worked book, its header and its first line:
@@ -231,6 +250,69 @@ static void balances(const uint8_t *book)
     expect_pool("pool 3, one byte short", book, WORKED_LEN - 1, 3, no_book);
 }
 
+/* Document 001's raise regulation: each region's price and enablement, and the
+ * marginal value of the mainland's constraint, here 500. */
+static const uint8_t ROWS[9 * 16] = {
+    /* 98.81 dollars are 9,881 = 0x2699 cents, 83.43 dollars 8,343 = 0x2097 */
+    0, 0, 0, 0, 9, 0, 0, 0, 0x99, 0x26, 0, 0, 0x88, 0x13, 0, 0, /* 50 MW */
+    0, 0, 0, 0, 9, 1, 0, 0, 0x99, 0x26, 0, 0, 0x70, 0x17, 0, 0, /* 60 MW */
+    0, 0, 0, 0, 9, 2, 0, 0, 0x99, 0x26, 0, 0, 0, 0, 0, 0,       /* 0 MW */
+    0, 0, 0, 0, 9, 3, 0, 0, 0x97, 0x20, 0, 0, 0x88, 0x13, 0, 0, /* 50 MW */
+    0, 0, 0, 0, 9, 4, 0, 0, 0x99, 0x26, 0, 0, 0x70, 0x17, 0, 0, /* 60 MW */
+    /* id 500 = 0x01F4; 98.55 dollars are 9,855 = 0x267F cents */
+    0xF4, 1, 0, 0, 9, 0, 0, 0, 0x7F, 0x26, 0, 0, 0x88, 0x13, 0, 0,
+    0xF4, 1, 0, 0, 9, 1, 0, 0, 0x7F, 0x26, 0, 0, 0x70, 0x17, 0, 0,
+    0xF4, 1, 0, 0, 9, 2, 0, 0, 0x7F, 0x26, 0, 0, 0, 0, 0, 0,
+    0xF4, 1, 0, 0, 9, 4, 0, 0, 0x7F, 0x26, 0, 0, 0x70, 0x17, 0, 0,
+};
+
+/* The payment is 4,117,083 + 4,940,500 + 0 + 3,476,250 + 4,940,500, of which the
+ * first is rounded; the base cost 4,106,250 + 4,927,500 + 0 + 4,927,500. */
+static void costs(void)
+{
+    static const fervolatro_cost none = {0, 0, 0};
+    static const fervolatro_cost payment = {0, 0, 17474333};
+    static const fervolatro_cost base_cost = {0, 0, 13961250};
+    enum { LEN = sizeof ROWS };
+
+    expect_payment("raise regulation", ROWS, LEN, 9, payment);
+    expect_payment("lower regulation", ROWS, LEN, 10, none);
+    expect_payment("service 11", ROWS, LEN, 11, none);
+    expect_payment("payment of no rows", ROWS, 0, 9, none);
+    expect_payment("payment of NULL", NULL, 0, 9, none);
+
+    expect_base_cost("constraint 500", ROWS, LEN, 500, 9, base_cost);
+    expect_base_cost("constraint 500, service 10", ROWS, LEN, 500, 10, none);
+    expect_base_cost("constraint 501", ROWS, LEN, 501, 9, none);
+    expect_base_cost("id 0", ROWS, LEN, 0, 9, none);
+    expect_base_cost("base cost of NULL", NULL, 0, 500, 9, none);
+}
+
+/* The last row begins at 128, the third at 32. Whatever is asked for, a row that
+ * is refused refuses all. */
+static void refused_rows(void)
+{
+    static const fervolatro_cost last = {16, 128, 0};
+    static const fervolatro_cost third = {16, 32, 0};
+    enum { LEN = sizeof ROWS, THIRD_AT = 2 * 16 };
+    uint8_t rows[LEN];
+
+    expect_payment("payment, one byte short", ROWS, LEN - 1, 9, last);
+    expect_base_cost("base cost, 15 bytes short", ROWS, LEN - 15, 500, 9, last);
+
+    memcpy(rows, ROWS, LEN);
+    rows[THIRD_AT + 5] = 1;
+    expect_payment("payment, QLD1 twice", rows, LEN, 9, third);
+    expect_payment("service 11, QLD1 twice", rows, LEN, 11, third);
+    expect_base_cost("base cost, QLD1 twice", rows, LEN, 500, 9, third);
+
+    memcpy(rows, ROWS, LEN);
+    rows[THIRD_AT + 7] = 1;
+    expect_payment("payment, a reserved byte of 1", rows, LEN, 9, third);
+    expect_base_cost("base cost, a reserved byte of 1", rows, LEN, 500, 9,
+                     third);
+}
+
 int main(int argc, char **argv)
 {
     static const fervolatro_pool no_usage = {5, 84, 0, 0, 0};
@@ -256,6 +338,8 @@ int main(int argc, char **argv)
     expect_statement("account 8", book, 8, STATEMENT_LEN, 11, FRONT, 0);
     read_back(book);
     balances(book);
+    costs();
+    refused_rows();
 
     /* Usage 400,000 is 0x00061A80; with a high byte of 1 it passes 1,000,000. */
     book[USAGE_AT + 3] = 1;

@@ -1,7 +1,9 @@
 /*
  * Sees that the header's constants are what the library answers and reads: each
- * refusal by its name, the sizes by the records, and of each group exactly the
- * numbers that the library takes. The path of the worked book is the one argument.
+ * refusal by its name, the sizes by the records, the limits of a dispatch row by
+ * the last number that is taken and the first that is not, and of each group
+ * exactly the numbers that the library takes. The path of the worked book is the
+ * one argument.
  *
  * Exits non-zero with a message if an answer is not the expected one. That the
  * constants are also the numbers of the rules, a guard sees
@@ -31,6 +33,9 @@ _Static_assert(FERVOLATRO_LARGEST_BOOK == 39796, "24 + 60 + 2,560 + 12,000 + "
 _Static_assert(FERVOLATRO_LARGEST_STATEMENT == 51672, "24 + 51,648");
 _Static_assert(FERVOLATRO_LIMIT / 1000000 == 50000 && sizeof FERVOLATRO_LIMIT == 8,
                "the limit is not cut off");
+_Static_assert(FERVOLATRO_MOST_PRODUCT == 12 * FERVOLATRO_LIMIT
+                   && sizeof FERVOLATRO_MOST_PRODUCT == 8,
+               "a row of the most product makes the limit");
 
 /* ---- The groups. A compiler takes no two equal numbers in one switch. */
 
@@ -148,6 +153,7 @@ static const char *name_of(uint64_t refusal)
     case FERVOLATRO_REFUSED_BUFFER: return "buffer";
     case FERVOLATRO_REFUSED_NO_STATEMENT: return "no statement";
     case FERVOLATRO_REFUSED_PAST_END: return "past the end";
+    case FERVOLATRO_REFUSED_DISPATCH_ROW: return "dispatch row";
     default: return "a number without a name";
     }
 }
@@ -159,6 +165,15 @@ static void expect(const char *what, uint64_t got, uint64_t expected)
     if (got != expected) {
         fprintf(stderr, "%s: expected %s, got %s (%" PRIu64 ")\n", what,
                 name_of(expected), name_of(got), got);
+        failures++;
+    }
+}
+
+static void expect_number(const char *what, uint64_t got, uint64_t expected)
+{
+    if (got != expected) {
+        fprintf(stderr, "%s: expected %" PRIu64 ", got %" PRIu64 "\n", what,
+                expected, got);
         failures++;
     }
 }
@@ -270,15 +285,127 @@ static void refusals_of_a_statement(void)
            FERVOLATRO_REFUSED_PAST_END);
 }
 
+/* ---- Dispatch rows, by their size and their limits. */
+
+enum {
+    ROW_LEN = FERVOLATRO_DISPATCH_ROW_SIZE,
+    RAISE = FERVOLATRO_SERVICE_REGULATION_RAISE,
+    /* The most that a row of the highest price has enabled: 240,000. */
+    MOST_ENABLED = FERVOLATRO_MOST_PRODUCT / FERVOLATRO_MOST_PRICE
+};
+
+_Static_assert(FERVOLATRO_MOST_PRODUCT % FERVOLATRO_MOST_PRICE == 0,
+               "and the product is then the most");
+
+static void put_u32(uint8_t *at, uint32_t number)
+{
+    size_t i;
+
+    for (i = 0; i < 4; i++) {
+        at[i] = (uint8_t)(number >> (8 * i));
+    }
+}
+
+/* A payment row of raise regulation. */
+static void put_row(uint8_t *row, unsigned region, uint32_t price,
+                    uint32_t enablement)
+{
+    memset(row, 0, ROW_LEN);
+    row[4] = RAISE;
+    row[5] = (uint8_t)region;
+    put_u32(row + 8, price);
+    put_u32(row + 12, enablement);
+}
+
+/* The answer to one row. */
+static fervolatro_cost row_of(uint32_t price, uint32_t enablement)
+{
+    uint8_t row[ROW_LEN];
+
+    put_row(row, FERVOLATRO_REGION_NSW1, price, enablement);
+    return fervolatro_payment(row, ROW_LEN, RAISE);
+}
+
+/* The answer to two rows, of which the first makes the limit by itself. */
+static fervolatro_cost limit_and(uint32_t price, uint32_t enablement)
+{
+    uint8_t rows[2 * ROW_LEN];
+
+    put_row(rows, FERVOLATRO_REGION_NSW1, FERVOLATRO_MOST_PRICE, MOST_ENABLED);
+    put_row(rows + ROW_LEN, FERVOLATRO_REGION_VIC1, price, enablement);
+    return fervolatro_payment(rows, sizeof rows, RAISE);
+}
+
+/* The second row begins where the first ends. */
+static void row_size(void)
+{
+    uint8_t rows[2 * ROW_LEN];
+    fervolatro_cost more;
+
+    put_row(rows, FERVOLATRO_REGION_NSW1, 1, 1);
+    put_row(rows + ROW_LEN, FERVOLATRO_REGION_VIC1, 1, 1);
+    expect("a row", fervolatro_payment(rows, ROW_LEN, RAISE).refusal,
+           FERVOLATRO_NOT_REFUSED);
+    expect("two rows", fervolatro_payment(rows, sizeof rows, RAISE).refusal,
+           FERVOLATRO_NOT_REFUSED);
+    expect("a byte less of a row",
+           fervolatro_payment(rows, ROW_LEN - 1, RAISE).refusal,
+           FERVOLATRO_REFUSED_DISPATCH_ROW);
+    expect("a byte less, asked for a base cost",
+           fervolatro_base_cost(rows, ROW_LEN - 1, 1, RAISE).refusal,
+           FERVOLATRO_REFUSED_DISPATCH_ROW);
+    more = fervolatro_payment(rows, ROW_LEN + 1, RAISE);
+    expect("a byte more", more.refusal, FERVOLATRO_REFUSED_DISPATCH_ROW);
+    expect_number("its place", more.place, ROW_LEN);
+}
+
+/* The least product of two such numbers that is above the limit: 600,000,000,004.
+ * Those of 1 to 3 above it are none. */
+enum { PAST_PRICE = 957347, PAST_ENABLEMENT = 626732 };
+
+_Static_assert((long long)PAST_PRICE * PAST_ENABLEMENT
+                   == FERVOLATRO_MOST_PRODUCT + 4,
+               "957,347 x 626,732");
+
+static void row_limits(void)
+{
+    expect("the highest price", row_of(FERVOLATRO_MOST_PRICE, 1).refusal,
+           FERVOLATRO_NOT_REFUSED);
+    expect("a cent more", row_of(FERVOLATRO_MOST_PRICE + 1, 1).refusal,
+           FERVOLATRO_REFUSED_DISPATCH_ROW);
+    expect("the most enablement",
+           row_of(1, FERVOLATRO_MOST_ENABLEMENT).refusal,
+           FERVOLATRO_NOT_REFUSED);
+    expect("a hundredth of a MW more",
+           row_of(1, FERVOLATRO_MOST_ENABLEMENT + 1).refusal,
+           FERVOLATRO_REFUSED_DISPATCH_ROW);
+    expect("the most product",
+           row_of(FERVOLATRO_MOST_PRICE, MOST_ENABLED).refusal,
+           FERVOLATRO_NOT_REFUSED);
+    expect("a product above it", row_of(PAST_PRICE, PAST_ENABLEMENT).refusal,
+           FERVOLATRO_REFUSED_DISPATCH_ROW);
+}
+
+/* 5 / 12 is rounded to 0, and 6 / 12 to 1, which is past the limit. */
+static void sum_limit(void)
+{
+    expect("the limit and 5 / 12", limit_and(5, 1).refusal,
+           FERVOLATRO_NOT_REFUSED);
+    expect_number("their sum", limit_and(5, 1).amount, FERVOLATRO_LIMIT);
+    expect("the limit and 6 / 12", limit_and(6, 1).refusal,
+           FERVOLATRO_REFUSED_DISPATCH_ROW);
+}
+
 /* ---- Exactly the numbers of a group are taken. Another is refused as a field
- * outside its rules, or as no statement. One that is taken may still make another
- * check fail, which comes after. */
+ * outside its rules, as no statement or as a dispatch row. One that is taken may
+ * still make another check fail, which comes after. */
 
 static void expect_taken(const char *what, unsigned number, uint64_t refusal,
                          int is_known)
 {
     int is_taken = refusal != FERVOLATRO_REFUSED_FIELD
-                   && refusal != FERVOLATRO_REFUSED_NO_STATEMENT;
+                   && refusal != FERVOLATRO_REFUSED_NO_STATEMENT
+                   && refusal != FERVOLATRO_REFUSED_DISPATCH_ROW;
 
     if (is_taken != is_known) {
         fprintf(stderr, "%s %u: %s, though the header %s it\n", what, number,
@@ -366,6 +493,28 @@ static void line_numbers(void)
     }
 }
 
+/* The answer to a row with one byte of it changed. */
+static uint64_t row_with(size_t at, unsigned byte)
+{
+    uint8_t row[ROW_LEN];
+
+    put_row(row, FERVOLATRO_REGION_NSW1, 1, 1);
+    row[at] = (uint8_t)byte;
+    return fervolatro_payment(row, ROW_LEN, RAISE).refusal;
+}
+
+static void row_numbers(void)
+{
+    unsigned number;
+
+    for (number = 0; number < 256; number++) {
+        expect_taken("service of a row", number, row_with(4, number),
+                     is_service(number));
+        expect_taken("region of a row", number, row_with(5, number),
+                     is_region(number));
+    }
+}
+
 int main(int argc, char **argv)
 {
     if (argc != 2) {
@@ -375,6 +524,10 @@ int main(int argc, char **argv)
     read_book(argv[1]);
     refusals_of_a_book();
     refusals_of_a_statement();
+    row_size();
+    row_limits();
+    sum_limit();
+    row_numbers();
     line_numbers();
     energy_numbers();
     contract_numbers();

@@ -35,6 +35,7 @@ enum {
     HEADING_FIELDS = 7,
     ENTRY_FIELDS = 7,
     LINE_FIELDS = 5,
+    COST_FIELDS = 3,
     MOST_FIELDS = 7
 };
 
@@ -48,6 +49,7 @@ HAS_FIELDS(fervolatro_pool, POOL_FIELDS);
 HAS_FIELDS(fervolatro_heading, HEADING_FIELDS);
 HAS_FIELDS(fervolatro_entry, ENTRY_FIELDS);
 HAS_FIELDS(fervolatro_fields, LINE_FIELDS);
+HAS_FIELDS(fervolatro_cost, COST_FIELDS);
 
 static uint64_t field(const void *answer, size_t at)
 {
@@ -116,6 +118,12 @@ static void expect_line(const char *name, fervolatro_fields got,
     expect_fields(name, LINE_FIELDS, &got, &expected);
 }
 
+static void expect_cost(const char *name, fervolatro_cost got,
+                        fervolatro_cost expected)
+{
+    expect_fields(name, COST_FIELDS, &got, &expected);
+}
+
 /* Fields behind refusal and place: none is 0, as refusal and place then are, and no
  * two are equal. So no two of them can be exchanged unseen. */
 static void expect_distinct(const char *name, size_t fields, const void *answer)
@@ -135,7 +143,7 @@ static void expect_distinct(const char *name, size_t fields, const void *answer)
     }
 }
 
-/* ---- Records, put into bytes where 01 has their fields. */
+/* ---- Records, put into bytes where the rules have their fields. */
 
 static void put(uint8_t *bytes, size_t at, size_t width, uint64_t value)
 {
@@ -154,7 +162,8 @@ enum {
     UNIT_LEN = 20,
     ENERGY_LEN = 24,
     CONTRACT_LEN = 36,
-    LINE_LEN = 24
+    LINE_LEN = 24,
+    ROW_LEN = 16
 };
 
 /* Header and lines of a statement and header of a book begin alike: mark,
@@ -218,6 +227,17 @@ static void put_contract(uint8_t *at, uint64_t id, uint64_t kind,
     put(at, 4, 1, kind);
     put(at, 8, 8, payment);
     put(at, 16 + 4 * region, 4, 1000000);
+}
+
+static void put_row(uint8_t *at, uint64_t id, uint64_t service,
+                    uint64_t region, uint64_t price, uint64_t enablement)
+{
+    put(at, 0, 4, id);
+    put(at, 4, 1, service);
+    put(at, 5, 1, region);
+    put(at, 6, 2, 0);
+    put(at, 8, 4, price);
+    put(at, 12, 4, enablement);
 }
 
 /* ---- A book that is accepted, with names of 2^31 and above. */
@@ -369,6 +389,38 @@ static const fervolatro_pool POOL[POOLS] = {
      .sum = -INT64_C(40000000003)},
 };
 
+/*
+ * Dispatch rows. Each price is above what an enablement can be, so that the two are
+ * not exchanged unseen. A twelfth of each product:
+ *
+ *   2,000,001 x 234,567 = 469,134,234,567      39,094,519,547 and a quarter
+ *   1,999,999 x  54,321 = 108,641,945,679       9,053,495,473 and a quarter
+ *   1,234,567 x  98,765 = 121,932,009,755      10,161,000,813, less a twelfth
+ *   2,222,222 x  76,543 = 170,095,538,546      14,174,628,212 and a sixth
+ *   1,876,543 x 150,001 = 281,483,326,543      23,456,943,879, less five twelfths
+ *   2,345,678 x 222,222 = 521,261,256,516      43,438,438,043
+ *
+ * The first two are of one service: 48,148,015,020.
+ */
+enum { RAISE = 9, LOWER = 10, ROWS = 6, ROWS_LEN = ROWS * ROW_LEN };
+
+static void make_rows(uint8_t rows[ROWS_LEN])
+{
+    put_row(rows, 0, RAISE, 0, 2000001, 234567);
+    put_row(rows + ROW_LEN, 0, RAISE, 4, 1999999, 54321);
+    put_row(rows + 2 * ROW_LEN, 0, LOWER, 2, 1234567, 98765);
+    put_row(rows + 3 * ROW_LEN, CONTINGENCY, 1, 1, 2222222, 76543);
+    put_row(rows + 4 * ROW_LEN, REGULATION, RAISE, 3, 1876543, 150001);
+    put_row(rows + 5 * ROW_LEN, REGULATION, LOWER, 2, 2345678, 222222);
+}
+
+static const fervolatro_cost NO_COST = {0};
+static const fervolatro_cost RAISE_PAYMENT = {.amount = UINT64_C(48148015020)};
+static const fervolatro_cost LOWER_PAYMENT = {.amount = UINT64_C(10161000813)};
+static const fervolatro_cost CONTINGENCY_COST = {.amount = UINT64_C(14174628212)};
+static const fervolatro_cost RAISE_COST = {.amount = UINT64_C(23456943879)};
+static const fervolatro_cost LOWER_COST = {.amount = UINT64_C(43438438043)};
+
 /* ---- Answers of calls that go well. */
 
 enum { ROOM = STATEMENT_LEN + LINE_LEN, UNTOUCHED = 0xA5 };
@@ -459,6 +511,31 @@ static void good_call_for_all_lines(const uint8_t *statement)
     expect_line("the last of all lines", lines[LINES - 1], LINE[LINES - 1]);
     expect_left("lines into just enough", bytes, sizeof lines, bytes,
                 LINES_LEN);
+}
+
+static void good_calls_on_rows(const uint8_t *rows)
+{
+    expect_cost("payment", fervolatro_payment(rows, ROWS_LEN, RAISE),
+                RAISE_PAYMENT);
+    expect_cost("another payment", fervolatro_payment(rows, ROWS_LEN, LOWER),
+                LOWER_PAYMENT);
+    expect_cost("payment, rows of a constraint alone",
+                fervolatro_payment(rows, ROWS_LEN, 1), NO_COST);
+
+    expect_cost("base cost",
+                fervolatro_base_cost(rows, ROWS_LEN, REGULATION, RAISE),
+                RAISE_COST);
+    expect_cost("base cost of another service",
+                fervolatro_base_cost(rows, ROWS_LEN, REGULATION, LOWER),
+                LOWER_COST);
+    expect_cost("base cost of another constraint",
+                fervolatro_base_cost(rows, ROWS_LEN, CONTINGENCY, 1),
+                CONTINGENCY_COST);
+    expect_cost("base cost of one in the other's service",
+                fervolatro_base_cost(rows, ROWS_LEN, CONTINGENCY, RAISE),
+                NO_COST);
+    expect_cost("base cost of id 0",
+                fervolatro_base_cost(rows, ROWS_LEN, 0, RAISE), NO_COST);
 }
 
 /* ---- Refusals: number and place differ, and every other field is 0. */
@@ -568,6 +645,54 @@ static void refused_calls_for_all_lines(const uint8_t *statement)
     expect_left("lines refused", buffer, LINES_LEN, buffer, 0);
 }
 
+/* Rows of which the last is the one before it again, and so does not rise; two
+ * such amounts are within the limit. It is refused by 16, at a place of 74,560 =
+ * 0x12340: above 2^16, and different in each of its three bytes. Without it the
+ * rows are accepted. */
+enum {
+    GOOD_ROWS = 4660,
+    REFUSED_ROW_AT = GOOD_ROWS * ROW_LEN,
+    REFUSED_ROWS_LEN = REFUSED_ROW_AT + ROW_LEN
+};
+
+_Static_assert(REFUSED_ROW_AT == 0x12340, "16 x 4,660");
+
+static void make_refused_rows(uint8_t rows[REFUSED_ROWS_LEN])
+{
+    uint8_t *last = rows + REFUSED_ROW_AT;
+    uint64_t i;
+
+    for (i = 0; i < GOOD_ROWS; i++) {
+        put_row(rows + i * ROW_LEN, i, RAISE, 0, 1876543, 150001);
+    }
+    memcpy(last, last - ROW_LEN, ROW_LEN);
+}
+
+static void refused_calls_on_rows(void)
+{
+    static const fervolatro_cost refused = {.refusal = 16,
+                                            .place = REFUSED_ROW_AT};
+    static const fervolatro_cost accepted = {.amount = UINT64_C(23456943879)};
+    static uint8_t rows[REFUSED_ROWS_LEN];
+
+    make_refused_rows(rows);
+    expect_cost("payment of many rows",
+                fervolatro_payment(rows, REFUSED_ROW_AT, RAISE), accepted);
+    expect_cost("payment refused",
+                fervolatro_payment(rows, REFUSED_ROWS_LEN, RAISE), refused);
+    expect_cost("payment of a row cut short",
+                fervolatro_payment(rows, REFUSED_ROW_AT + 1, RAISE), refused);
+
+    expect_cost("base cost of many rows",
+                fervolatro_base_cost(rows, REFUSED_ROW_AT, 1, RAISE), accepted);
+    expect_cost("base cost refused",
+                fervolatro_base_cost(rows, REFUSED_ROWS_LEN, 1, RAISE),
+                refused);
+    expect_cost("base cost of a row cut short",
+                fervolatro_base_cost(rows, REFUSED_ROWS_LEN - 1, 1, RAISE),
+                refused);
+}
+
 /* ---- Numbers of 2^32 and above, given. */
 
 /* Each is a pool's or a line's number, and one bit more. */
@@ -605,6 +730,35 @@ static void accounts_that_are_not_there(const uint8_t *book)
                        (fervolatro_written){.refusal = 11});
     }
     expect_left("account of another bit", buffer, ROOM, buffer, 0);
+}
+
+/* Each differs from a service that is there in one bit, and is none that is. */
+static void services_that_are_not_there(const uint8_t *rows)
+{
+    uint64_t service;
+    int bit;
+
+    for (bit = 0; bit < 64; bit++) {
+        service = RAISE ^ (UINT64_C(1) << bit);
+        expect_cost("payment of another bit",
+                    fervolatro_payment(rows, ROWS_LEN, service), NO_COST);
+        expect_cost("base cost of another bit of the service",
+                    fervolatro_base_cost(rows, ROWS_LEN, REGULATION, service),
+                    NO_COST);
+    }
+}
+
+/* Each differs from a constraint that is there in one bit. */
+static void constraints_that_are_not_there(const uint8_t *rows)
+{
+    uint32_t id;
+    int bit;
+
+    for (bit = 0; bit < 32; bit++) {
+        id = REGULATION ^ (UINT32_C(1) << bit);
+        expect_cost("base cost of another bit of the id",
+                    fervolatro_base_cost(rows, ROWS_LEN, id, RAISE), NO_COST);
+    }
 }
 
 /* ---- Lengths of 2^32 and above, lent. */
@@ -659,6 +813,21 @@ static void long_statement(uint8_t *mapped, const uint8_t *statement)
     expect_left("rewrite of a long statement", buffer, ROOM, buffer, 0);
 }
 
+/* The bytes begin with rows, and go on with zeros: a row of service 0, which is out
+ * of its range. */
+static void long_rows(uint8_t *mapped, const uint8_t *rows)
+{
+    static const fervolatro_cost refused = {.refusal = 16, .place = ROWS_LEN};
+    const size_t len = TWO_TO_32 + ROWS_LEN;
+
+    memcpy(mapped, rows, ROWS_LEN);
+    memset(mapped + ROWS_LEN, 0, ROW_LEN);
+    expect_cost("payment of long rows", fervolatro_payment(mapped, len, RAISE),
+                refused);
+    expect_cost("base cost of long rows",
+                fervolatro_base_cost(mapped, len, REGULATION, RAISE), refused);
+}
+
 /* A buffer of 2^32 + 10 bytes has room for a statement; one of 10 has not. */
 static void long_buffer(uint8_t *mapped, const uint8_t *book,
                         const uint8_t *statement)
@@ -687,7 +856,7 @@ static void long_buffer(uint8_t *mapped, const uint8_t *book,
 }
 
 static void lengths(const char *machine, const uint8_t *book,
-                    const uint8_t *statement)
+                    const uint8_t *statement, const uint8_t *rows)
 {
     uint8_t *mapped = map();
 
@@ -700,6 +869,7 @@ static void lengths(const char *machine, const uint8_t *book,
     long_book(mapped, book);
     long_statement(mapped, statement);
     long_buffer(mapped, book, statement);
+    long_rows(mapped, rows);
     munmap(mapped, MAPPED);
 }
 
@@ -755,6 +925,15 @@ static void no_statement_at(const uint8_t *pointer)
     expect_left("lines of nothing", buffer, ROOM, buffer, 0);
 }
 
+/* No rows: 0, and not refused. */
+static void no_rows_at(const uint8_t *pointer)
+{
+    expect_cost("payment of nothing", fervolatro_payment(pointer, 0, RAISE),
+                NO_COST);
+    expect_cost("base cost of nothing",
+                fervolatro_base_cost(pointer, 0, REGULATION, RAISE), NO_COST);
+}
+
 /* No buffer: 13, where nothing else is wrong. */
 static void no_buffer_at(uint8_t *pointer, const uint8_t *book,
                          const uint8_t *statement)
@@ -789,19 +968,22 @@ static void nothing_into_nothing(const uint8_t *from, uint8_t *into)
                    (fervolatro_written){.refusal = 14});
 }
 
-static void slices_of_no_bytes(uint8_t *book, uint8_t *statement)
+static void slices_of_no_bytes(uint8_t *book, uint8_t *statement,
+                               const uint8_t *rows)
 {
     uint8_t *pointers[POINTERS];
     size_t i, other;
 
     no_book_at(book);
     no_statement_at(statement);
+    no_rows_at(rows);
     no_buffer_at((uint8_t[1]){0}, book, statement);
     nothing_into_nothing(book, statement);
     nowhere(pointers);
     for (i = 0; i < POINTERS; i++) {
         no_book_at(pointers[i]);
         no_statement_at(pointers[i]);
+        no_rows_at(pointers[i]);
         no_buffer_at(pointers[i], book, statement);
         for (other = 0; other < POINTERS; other++) {
             nothing_into_nothing(pointers[i], pointers[other]);
@@ -826,6 +1008,8 @@ typedef void any_call(void);
 typedef void *read_call(void *answer, const uint8_t *bytes, size_t len);
 typedef void *numbered_call(void *answer, const uint8_t *bytes, size_t len,
                             uint64_t number);
+typedef void *named_call(void *answer, const uint8_t *bytes, size_t len,
+                         uint32_t name, uint64_t number);
 typedef void *statement_call(void *answer, const uint8_t *book, size_t len,
                              uint32_t account, uint8_t *buffer, size_t room);
 typedef void *rewrite_call(void *answer, const uint8_t *statement, size_t len,
@@ -893,6 +1077,19 @@ static void painted_answers_on_a_statement(const uint8_t *statement)
     expect_painted("lines, painted", &answer, WRITTEN_FIELDS, &all_lines);
 }
 
+static void painted_answers_on_rows(const uint8_t *rows)
+{
+    numbered_call *payment_into =
+        (numbered_call *)(any_call *)fervolatro_payment;
+    named_call *base_cost_into = (named_call *)(any_call *)fervolatro_base_cost;
+    painted answer;
+
+    payment_into(paint(&answer), rows, ROWS_LEN, RAISE);
+    expect_painted("payment, painted", &answer, COST_FIELDS, &RAISE_PAYMENT);
+    base_cost_into(paint(&answer), rows, ROWS_LEN, REGULATION, RAISE);
+    expect_painted("base cost, painted", &answer, COST_FIELDS, &RAISE_COST);
+}
+
 /* An account has 32 bits, and the upper half of the register that it comes in may
  * hold anything (the same section of the ABI). */
 typedef fervolatro_written wide_account_call(const uint8_t *book, size_t len,
@@ -912,9 +1109,24 @@ static void account_in_a_wide_register(const uint8_t *book)
                    (fervolatro_written){.length = STATEMENT_LEN});
 }
 
+/* So has the id of a constraint. */
+typedef fervolatro_cost wide_id_call(const uint8_t *rows, size_t len,
+                                     uint64_t id, uint64_t service);
+
+static void id_in_a_wide_register(const uint8_t *rows)
+{
+    wide_id_call *base_cost_of =
+        (wide_id_call *)(any_call *)fervolatro_base_cost;
+
+    expect_cost("id in a wide register",
+                base_cost_of(rows, ROWS_LEN,
+                             UINT64_C(0xA5A5A5A500000000) + REGULATION, RAISE),
+                RAISE_COST);
+}
+
 int main(int argc, char **argv)
 {
-    uint8_t book[BOOK_LEN], statement[STATEMENT_LEN];
+    uint8_t book[BOOK_LEN], statement[STATEMENT_LEN], rows[ROWS_LEN];
 
     if (argc != 2) {
         fprintf(stderr, "usage: %s MACHINE\n", argv[0]);
@@ -922,23 +1134,31 @@ int main(int argc, char **argv)
     }
     make_book(book);
     make_statement(statement);
+    make_rows(rows);
 
     expect_distinct("the heading", HEADING_FIELDS, &HEADING);
     expect_distinct("the unit's first line", ENTRY_FIELDS, &LINE[1]);
     expect_distinct("the first pool", POOL_FIELDS, &POOL[0]);
+    expect_distinct("the raise payment", COST_FIELDS, &RAISE_PAYMENT);
     good_calls_on_the_book(book, statement);
     good_calls_on_the_statement(statement);
     good_call_for_all_lines(statement);
+    good_calls_on_rows(rows);
     refused_calls_on_a_book();
     refused_calls_on_a_statement(statement);
     refused_calls_for_all_lines(statement);
+    refused_calls_on_rows();
     numbers_past_the_end(book, statement);
     accounts_that_are_not_there(book);
+    services_that_are_not_there(rows);
+    constraints_that_are_not_there(rows);
     painted_answers_on_a_book(book);
     painted_answers_on_a_statement(statement);
+    painted_answers_on_rows(rows);
     account_in_a_wide_register(book);
-    lengths(argv[1], book, statement);
-    slices_of_no_bytes(book, statement);
+    id_in_a_wide_register(rows);
+    lengths(argv[1], book, statement, rows);
+    slices_of_no_bytes(book, statement, rows);
 
     return failures == 0 ? EXIT_SUCCESS : EXIT_FAILURE;
 }

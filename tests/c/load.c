@@ -1,7 +1,7 @@
 /*
  * Loads the shared library, as a program does that was not linked with it, and
- * makes every call of the header on the worked book. The paths of the library and
- * of the book are the arguments.
+ * makes every call of the header, on the worked book and on dispatch rows. The
+ * paths of the library and of the book are the arguments.
  *
  * Exits non-zero with a message if the library or a call is not there, or if an
  * answer is not the expected one.
@@ -33,6 +33,8 @@ static struct {
     CALL(line);
     CALL(lines);
     CALL(rewrite);
+    CALL(payment);
+    CALL(base_cost);
 } library;
 
 static void *find(void *loaded, const char *name)
@@ -64,6 +66,8 @@ static void *load(const char *path)
     FIND(loaded, line);
     FIND(loaded, lines);
     FIND(loaded, rewrite);
+    FIND(loaded, payment);
+    FIND(loaded, base_cost);
     return loaded;
 }
 
@@ -166,6 +170,29 @@ static void write_again(const uint8_t *statement)
     expect("the same bytes", memcmp(again, statement, STATEMENT_LEN), 0);
 }
 
+/* A payment row and one of constraint 500 = 0x01F4, raise regulation in VIC1:
+ * 9,881 = 0x2699 and 9,855 = 0x267F cents by 6,000 = 0x1770 hundredths of a MW,
+ * a twelfth of which is 500. A byte less cuts the second row short. */
+static void costs(void)
+{
+    static const uint8_t rows[2 * FERVOLATRO_DISPATCH_ROW_SIZE] = {
+        0, 0, 0, 0, 9, 4, 0, 0, 0x99, 0x26, 0, 0, 0x70, 0x17, 0, 0,
+        0xF4, 1, 0, 0, 9, 4, 0, 0, 0x7F, 0x26, 0, 0, 0x70, 0x17, 0, 0,
+    };
+    enum { LEN = sizeof rows, SERVICE = FERVOLATRO_SERVICE_REGULATION_RAISE };
+    fervolatro_cost cost = library.payment(rows, LEN, SERVICE);
+
+    expect("payment", (int64_t)cost.refusal, FERVOLATRO_NOT_REFUSED);
+    expect("its amount", (int64_t)cost.amount, 4940500);
+    cost = library.base_cost(rows, LEN, 500, SERVICE);
+    expect("base cost", (int64_t)cost.refusal, FERVOLATRO_NOT_REFUSED);
+    expect("its amount", (int64_t)cost.amount, 4927500);
+    cost = library.payment(rows, LEN - 1, SERVICE);
+    expect("payment, 31 bytes", (int64_t)cost.refusal,
+           FERVOLATRO_REFUSED_DISPATCH_ROW);
+    expect("its place", (int64_t)cost.place, FERVOLATRO_DISPATCH_ROW_SIZE);
+}
+
 int main(int argc, char **argv)
 {
     uint8_t book[BOOK_LEN], statement[STATEMENT_LEN] = {0};
@@ -185,6 +212,7 @@ int main(int argc, char **argv)
     read_back(statement);
     read_all(statement);
     write_again(statement);
+    costs();
     expect("unloading", dlclose(loaded), 0);
 
     return failures == 0 ? EXIT_SUCCESS : EXIT_FAILURE;

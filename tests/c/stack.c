@@ -2,8 +2,9 @@
  * Sees how much stack the library's calls use: each is made on a stack of its
  * own, painted before. A book and an account are the arguments. Prints the bytes
  * that each call paints over: a check, the statement of the account, the balances
- * (the most over all pools), and the statement's header, its first line, all its
- * lines and the statement written again. Exits non-zero if one of them passes 4 KiB.
+ * (the most over all pools), the statement's header, its first line, all its lines
+ * and the statement written again, and a payment and a base cost (the most over few
+ * dispatch rows and many). Exits non-zero if one of them passes 4 KiB.
  */
 #define _XOPEN_SOURCE 700
 
@@ -18,7 +19,9 @@
 enum {
     LIMIT = 4096,
     ROOM = 1 << 20,
-    PAINT = 0xA5
+    PAINT = 0xA5,
+    FEW_ROWS = 2,
+    MANY_ROWS = 5000
 };
 
 /* A byte more than any book has: a longer file is then refused. */
@@ -26,7 +29,8 @@ static uint8_t book[FERVOLATRO_LARGEST_BOOK + 1];
 static uint8_t statement[FERVOLATRO_LARGEST_STATEMENT];
 static uint8_t buffer[FERVOLATRO_LARGEST_STATEMENT];
 static fervolatro_fields lines[FERVOLATRO_MOST_LINES];
-static size_t book_len, statement_len;
+static uint8_t rows[MANY_ROWS * FERVOLATRO_DISPATCH_ROW_SIZE];
+static size_t book_len, statement_len, rows_len;
 static uint32_t account;
 static uint64_t pool, refusal;
 
@@ -75,6 +79,20 @@ static void rewrite(void)
 {
     refusal = fervolatro_rewrite(statement, statement_len, buffer,
                                  sizeof buffer)
+                  .refusal;
+}
+
+static void make_payment(void)
+{
+    refusal = fervolatro_payment(rows, rows_len,
+                                 FERVOLATRO_SERVICE_REGULATION_RAISE)
+                  .refusal;
+}
+
+static void make_base_cost(void)
+{
+    refusal = fervolatro_base_cost(rows, rows_len, 1,
+                                   FERVOLATRO_SERVICE_REGULATION_RAISE)
                   .refusal;
 }
 
@@ -139,6 +157,22 @@ static void read_book(const char *path)
     fclose(file);
 }
 
+/* A payment row, then one of each constraint from 1 on: raise regulation in NSW1,
+ * 9,881 = 0x2699 cents by 5,000 = 0x1388 hundredths of a MW. */
+static void make_rows(void)
+{
+    uint8_t *row = rows;
+    unsigned id;
+
+    for (id = 0; id < MANY_ROWS; id++, row += FERVOLATRO_DISPATCH_ROW_SIZE) {
+        row[0] = (uint8_t)id;
+        row[1] = (uint8_t)(id >> 8);
+        row[4] = FERVOLATRO_SERVICE_REGULATION_RAISE;
+        row[5] = FERVOLATRO_REGION_NSW1;
+        memcpy(row + 8, (uint8_t[]){0x99, 0x26, 0, 0, 0x88, 0x13, 0, 0}, 8);
+    }
+}
+
 /* Prints what a call uses, and says whether that keeps within the limit. */
 static int shown(const char *name, size_t used)
 {
@@ -150,14 +184,34 @@ static int shown(const char *name, size_t used)
 }
 
 /* A refused call may end early, and say little. */
-static int accepted_and_shown(const char *name, void (*call)(void))
+static void see_accepted(const char *name, void (*call)(void))
 {
     call();
     if (refusal != 0) {
         fprintf(stderr, "%s: refused %" PRIu64 "\n", name, refusal);
         exit(2);
     }
+}
+
+static int accepted_and_shown(const char *name, void (*call)(void))
+{
+    see_accepted(name, call);
     return shown(name, used_by(call));
+}
+
+/* The most over few rows and many. */
+static int shown_over_rows(const char *name, void (*call)(void))
+{
+    static const size_t counts[] = {FEW_ROWS, MANY_ROWS};
+    size_t i, used, most = 0;
+
+    for (i = 0; i < sizeof counts / sizeof counts[0]; i++) {
+        rows_len = counts[i] * FERVOLATRO_DISPATCH_ROW_SIZE;
+        see_accepted(name, call);
+        used = used_by(call);
+        most = used > most ? used : most;
+    }
+    return shown(name, most);
 }
 
 int main(int argc, char **argv)
@@ -169,6 +223,7 @@ int main(int argc, char **argv)
         return 2;
     }
     read_book(argv[1]);
+    make_rows();
     account = (uint32_t)strtoul(argv[2], NULL, 10);
 
     kept = accepted_and_shown("check", check);
@@ -178,6 +233,8 @@ int main(int argc, char **argv)
     kept &= accepted_and_shown("line", read_line);
     kept &= accepted_and_shown("lines", read_lines);
     kept &= accepted_and_shown("rewrite", rewrite);
+    kept &= shown_over_rows("payment", make_payment);
+    kept &= shown_over_rows("base cost", make_base_cost);
     printf("\n");
     return kept ? EXIT_SUCCESS : EXIT_FAILURE;
 }

@@ -1,4 +1,5 @@
--- What a caller in C or Rust is answered for each case of a verdict, of a written statement, of one that is read, and of a pool's balance.
+-- What a caller in C or Rust is answered for each case of a verdict, of a written statement, of one that is read, of a pool's balance, and of a
+-- payment or a base cost.
 use Rattle.sections.specs.declared.Verdict.{Verdict}
 use Rattle.sections.specs.declared.Verdict.the-variants.{Accepted, Refused}
 use Prim.Native.Nat.{ℕ}
@@ -14,11 +15,14 @@ use Rattle.reading.specs.declared.LineRead.{LineRead}
 use Rattle.reading.specs.declared.LineRead.the-variants as line
 use Rattle.balance.specs.declared.Balanced.{Balanced}
 use Rattle.balance.specs.declared.Balanced.the-variants as balanced
+use Rattle.dispatch.specs.declared.Cost.{Cost}
+use Rattle.dispatch.specs.declared.Cost.the-variants as cost
 use Rattle.answers.specs.declared.VerdictAnswer.{VerdictAnswer}
 use Rattle.answers.specs.declared.WrittenAnswer.{WrittenAnswer}
 use Rattle.answers.specs.declared.HeadingAnswer.{HeadingAnswer}
 use Rattle.answers.specs.declared.EntryAnswer.{EntryAnswer}
 use Rattle.answers.specs.declared.PoolAnswer.{PoolAnswer}
+use Rattle.answers.specs.declared.CostAnswer.{CostAnswer}
 
 -- 01, Refusals: "A refusal answers its number and place"; acceptance is number 0 at place 0
 unfoldable pub verdictAnswer : Verdict → VerdictAnswer
@@ -50,3 +54,7 @@ entryAnswer (line.Refused number place) =
 unfoldable pub poolAnswer : Balanced → PoolAnswer
 poolAnswer (balanced.Pool b) = record { refusal = 0; place = 0; amount = b .amount; lines = b .lines; sum = b .sum }
 poolAnswer (balanced.Refused number place) = record { refusal = number; place = place; amount = pos 0; lines = 0; sum = pos 0 }
+
+unfoldable pub costAnswer : Cost → CostAnswer
+costAnswer (cost.Amount amount) = record { refusal = 0; place = 0; amount = amount }
+costAnswer (cost.Refused number place) = record { refusal = number; place = place; amount = 0 }

@@ -1,7 +1,8 @@
 // What a caller in C or Rust is answered (include/fervolatro.h): plain structs of numbers, and how each case of an answer fills them.
 ghost use mathlib.Core.Path.{_≡_};
-ghost use Rattle.answers.specs.Answers.{verdictAnswer, writtenAnswer, headingAnswer, entryAnswer, poolAnswer};
+ghost use Rattle.answers.specs.Answers.{verdictAnswer, writtenAnswer, headingAnswer, entryAnswer, poolAnswer, costAnswer};
 use balance::Balanced;
+use dispatch::Cost;
 use reading::HeadingRead;
 use reading::LineRead;
 use sections::Verdict;
@@ -155,6 +156,31 @@ pub fn pool(b: Balanced) -> PoolAnswer
             amount: 0,
             lines: 0,
             sum: 0,
+        },
+    }
+}
+
+// `fervolatro_cost`: refusal 0 is success, and then amount is the payment or the base cost.
+#[repr(C)]
+pub struct CostAnswer {
+    pub refusal: u64,
+    pub place: u64,
+    pub amount: u64,
+}
+
+pub fn cost(made: Cost) -> CostAnswer
+    ensures { λ r. ⌜ r ≡ costAnswer made ⌝ }
+{
+    match made {
+        Cost::Amount(amount) => CostAnswer {
+            refusal: 0,
+            place: 0,
+            amount,
+        },
+        Cost::Refused(number, place) => CostAnswer {
+            refusal: number as u64,
+            place: place as u64,
+            amount: 0, // nothing came of the rows
         },
     }
 }

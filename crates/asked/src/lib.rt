@@ -1,12 +1,15 @@
 // The three demands, asked of the library's calls themselves. Each function here makes one call (of demand 3, two), and its contract is the demand's own
 // definition: nothing lies between a demand and the edge, and a call that loses its promise is refused here. Nobody calls these functions.
 ghost use mathlib.Core.Path.{_≡_};
+ghost use mathlib.Core.List.{List};
+ghost use Prim.Native.Nat.{ℕ};
 ghost use Rattle.reading.specs.Rewriting.{rewritten};
 ghost use Rattle.unpacking.specs.Unpacking.{unpacked};
 ghost use Rattle.settlement.specs.Settle.{outcome};
-ghost use Rattle.demands.specs.Demand1.{CheckAnswered, PoolAnswered, HeadingAnswered, EntryAnswered, Gives, Answered, onAStatement, onRewriting};
+ghost use Rattle.demands.specs.Demand1.{CheckAnswered, PoolAnswered, HeadingAnswered, EntryAnswered, CostAnswered, Gives, Answered, onAStatement, onRewriting};
 ghost use Rattle.demands.specs.Demand2.{NumbersAreTheGuides, StatementIsTheGuides, LinesAreTheLineCalls, PoolCloses};
-ghost use Rattle.demands.specs.Demand3.{Agree, Same};
+ghost use Rattle.demands.specs.Demand3.{Agree, AgreeButForCosts, Way, CostsMade, Same};
+use answers::CostAnswer;
 use answers::EntryAnswer;
 use answers::HeadingAnswer;
 use answers::PoolAnswer;
@@ -60,13 +63,25 @@ pub fn lines(bytes: &[u8], buffer: &mut [u8]) -> WrittenAnswer
     fervolatro::fervolatro_lines(bytes, buffer)
 }
 
+pub fn payment(rows: &[u8], service: u64) -> CostAnswer
+    ensures { λ r. ⌜ CostAnswered r ⌝ }
+{
+    fervolatro::fervolatro_payment(rows, service)
+}
+
+pub fn base_cost(rows: &[u8], id: u32, service: u64) -> CostAnswer
+    ensures { λ r. ⌜ CostAnswered r ⌝ }
+{
+    fervolatro::fervolatro_base_cost(rows, id, service)
+}
+
 // What two calls answer.
 pub struct Both {
     pub first: WrittenAnswer,
     pub second: WrittenAnswer,
 }
 
-// The statements of one account from two books.
+// The statements of one account from two books, also from two whose costs are made from the same dispatch rows.
 pub fn neighbours(
     book: &[u8],
     other: &[u8],
@@ -75,6 +90,7 @@ pub fn neighbours(
     another: &mut [u8],
 ) -> Both
     ensures { λ r. ⌜ (Agree (now (book .entry)) (now (other .entry)) account → now (buffer .entry) ≡ now (another .entry) → Same (r .first) (r .second) (now (buffer .exit)) (now (another .exit))) ⌝ }
+    ensures { λ r. ⌜ ((rows : List ℕ) (way : ℕ → Way) → AgreeButForCosts (now (book .entry)) (now (other .entry)) account → CostsMade rows way (now (book .entry)) → CostsMade rows way (now (other .entry)) → now (buffer .entry) ≡ now (another .entry) → Same (r .first) (r .second) (now (buffer .exit)) (now (another .exit))) ⌝ }
 {
     let first = fervolatro::fervolatro_statement(book, account, buffer);
     let second = fervolatro::fervolatro_statement(other, account, another);

@@ -2,7 +2,11 @@
 use mathlib.Core.Path.{refl}
 use Rattle.ground.specs.Le.{le16, le32, le64, int64}
 use Rattle.numbers.specs.Sizes.{aboveOf, belowOf}
-use Rattle.sections.specs.Total.{total}
+use Rattle.sections.specs.First.{andThen, firstBad}
+use Rattle.sections.specs.Order.{risesBy}
+use Rattle.sections.specs.Refusal.{atRecord}
+use Rattle.sections.specs.Total.{total, keyed}
+use Rattle.dispatch.specs.Dispatch.{dispatchRow, amountOf, sumWith, rowOk, rowsVerdict, costIf, payment, baseCost}
 use Rattle.records.specs.Rows.{entryRow, constraintRow, unitRow, energyRow}
 use Rattle.market.specs.Kinds.{basisOf, modeWith}
 use Rattle.totals.specs.Divisors.{countedIn}
@@ -18,5 +22,5 @@ use Rattle.cases.specs.Cases.{table, AllHold}
 
 -- one `refl` for each row, in the table's order
 pub proved-cases : AllHold table
-unfolding le16 le32 le64 int32 int64 aboveOf belowOf total entryRow constraintRow unitRow energyRow modeWith basisOf countedIn headerOf poolsByMode residualPools byFactor byEnergy rowsOf keep sumOf concatMap publicOf rowsOfAccount ownEnergy unitLines restLines entryIn ofConstraint constraintLines linesOf
-proved-cases = (refl, (refl, (refl, (refl, (refl, (refl, (refl, (refl, (refl, (refl, tt))))))))))
+unfolding le16 le32 le64 int32 int64 aboveOf belowOf andThen firstBad risesBy atRecord total keyed dispatchRow amountOf sumWith rowOk rowsVerdict costIf payment baseCost entryRow constraintRow unitRow energyRow modeWith basisOf countedIn headerOf poolsByMode residualPools byFactor byEnergy rowsOf keep sumOf concatMap publicOf rowsOfAccount ownEnergy unitLines restLines entryIn ofConstraint constraintLines linesOf
+proved-cases = (refl, (refl, (refl, (refl, (refl, (refl, (refl, (refl, (refl, (refl, (refl, (refl, (refl, tt)))))))))))))

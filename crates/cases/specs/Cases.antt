@@ -1,12 +1,16 @@
 -- The cases that the document works out, each beside what the definitions of the statement give for the worked interval's bytes.
 -- 01, Proved cases: "rounding of 1/2, -1/2, 3/2, -7/4, 1/4 gives 1, -1, 2, -2, 0; the FPP pool 7,391,250; used 5,584,520; unused 8,376,780;
--- unit 3's FPP line 221,738; residual lines -27,717, -20,942, -26,177."
+-- unit 3's FPP line 221,738; residual lines -27,717, -20,942, -26,177." And 02, Req 01: "Document 001's raise regulation prices and enablement
+-- are a test: 17,474,333".
 use Prim.Native.Nat.{ℕ}
 use mathlib.Core.Path.{_≡_}
 use mathlib.Core.List.{List, [], _∷_, _++_}
 use mathlib.Core.Bool.{true, false}
 use lib.IntN.{ℤ}
 use Rattle.numbers.specs.Sign.{signed}
+use Rattle.dispatch.specs.Dispatch.{payment, baseCost}
+use Rattle.dispatch.specs.declared.Cost.{Cost}
+use Rattle.dispatch.specs.declared.Cost.the-variants.{Amount}
 use Rattle.book.specs.Book.{bookOf}
 use Rattle.amounts.specs.declared.pools.Pools.{Pools}
 use Rattle.amounts.specs.Pools.{poolsOf}
@@ -14,7 +18,7 @@ use Rattle.amounts.specs.Shares.{byEnergy}
 use Rattle.accounts.specs.Account.{publicOf, rowsOfAccount}
 use Rattle.statement.specs.declared.Line.{Line}
 use Rattle.settlement.specs.Settle.{linesOf}
-use Rattle.cases.specs.Written.{headerBytes, entryBytes, constraintBytes, unitBytes, energyBytes}
+use Rattle.cases.specs.Written.{headerBytes, entryBytes, constraintBytes, unitBytes, energyBytes, dispatchBytes}
 
 -- a number above 0 and one below it, as the document writes them
 abbrev pub plus : ℕ → ℤ
@@ -76,13 +80,30 @@ workedLines = linesOf (publicOf (bookOf worked)) (rowsOfAccount (bookOf worked) 
 abbrev pub listed : ℕ → ℕ → ℤ → Line
 listed part unit amount = record { id = 500; part = part; regions = 1; unit = unit; amount = amount }
 
--- ---- the table, in the document's order
+-- ---- document 001, tables 11 to 14: raise regulation, in cents and hundredths of a MW
+
+-- payment rows by the regions' prices, then F_T+RREG (here constraint 1) in TAS1 and F_TASCAP_RREG (2) in the other regions by their marginal values
+abbrev pub raiseRegulation : List ℕ
+raiseRegulation =
+    dispatchBytes 0 9 0 9881 5000
+    ++ dispatchBytes 0 9 1 9881 6000
+    ++ dispatchBytes 0 9 2 9881 0
+    ++ dispatchBytes 0 9 3 8343 5000
+    ++ dispatchBytes 0 9 4 9881 6000
+    ++ dispatchBytes 1 9 3 8317 5000
+    ++ dispatchBytes 2 9 0 9855 5000
+    ++ dispatchBytes 2 9 1 9855 6000
+    ++ dispatchBytes 2 9 2 9855 0
+    ++ dispatchBytes 2 9 4 9855 6000
+
+-- ---- the table, in the documents' order
 
 -- what a definition gives, and what the document says
 pub data Case : Type 0 where
   number : ℤ → ℤ → Case
   lines : List Line → List Line → Case
   bytes : List ℕ → List ℕ → Case
+  cost : Cost → Cost → Case
 
 -- a quotient, rounded as a share of a pool is: credit - charge over a total
 abbrev pub quotient : ℕ → ℕ → ℕ → ℤ
@@ -112,12 +133,16 @@ table =
     ∷ listed 7 0 (minus 20_942)
     ∷ listed 8 0 (minus 26_177)
     ∷ [])
+    ∷ cost (payment raiseRegulation 9) (Amount 17_474_333)
+    ∷ cost (baseCost raiseRegulation 1 9) (Amount 3_465_417)
+    ∷ cost (baseCost raiseRegulation 2 9) (Amount 13_961_250)
     ∷ []
 
 abbrev pub Holds : Case → Type 0
 Holds (number what is) = what ≡ is
 Holds (lines what is) = what ≡ is
 Holds (bytes what is) = what ≡ is
+Holds (cost what is) = what ≡ is
 
 -- every case of a table holds
 abbrev pub AllHold : List Case → Type 0

@@ -1,4 +1,4 @@
--- A book's bytes from its fields, in the order in which 01, The book, has them.
+-- The bytes of a book and of dispatch rows from their fields, in the order in which 01, The book, and 02, Req 01, have them.
 use Prim.Native.Nat.{ℕ}
 use mathlib.Core.List.{List, [], _∷_, _++_}
 use lib.IntN.{ℤ}
@@ -47,3 +47,7 @@ energyBytes account region ace asoe race rasoe =
 abbrev pub contractBytes : ℕ → ℕ → ℤ → ℕ → ℕ → ℕ → ℕ → ℕ → List ℕ
 contractBytes id kind payment nsw qld sa tas vic =
     le32 id ++ (kind ∷ 0 ∷ 0 ∷ 0 ∷ []) ++ int64 payment ++ le32 nsw ++ le32 qld ++ le32 sa ++ le32 tas ++ le32 vic
+
+-- "id u32, service u8, region u8, reserved u16, price u32 in cents, enablement u32 in hundredths of a MW"
+abbrev pub dispatchBytes : ℕ → ℕ → ℕ → ℕ → ℕ → List ℕ
+dispatchBytes id service region price enablement = le32 id ++ (service ∷ region ∷ []) ++ le16 0 ++ le32 price ++ le32 enablement

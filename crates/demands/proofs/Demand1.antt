@@ -11,6 +11,7 @@ use lib.ListN.{length}
 use Rattle.ground.specs.Put.{put}
 use Rattle.sections.specs.declared.Verdict.{Verdict}
 use Rattle.sections.specs.declared.Verdict.the-variants.{Accepted, Refused}
+use Rattle.dispatch.specs.Dispatch.{payment, baseCost, rowsVerdict, costIf}
 use Rattle.book.specs.Book.{bookOf}
 use Rattle.book.specs.Table.{verdict}
 use Rattle.accounts.specs.Account.{publicOf}
@@ -27,14 +28,15 @@ use Rattle.unpacking.specs.Unpacking.{allFields, unpacked}
 use Rattle.settlement.specs.Settle.{outcome}
 use Rattle.balance.specs.Pools.{Found, past, found, poolsIn, poolAt}
 use Rattle.balance.specs.Balance.{answerTo, balancesIn, balanceIf, balanceOf}
-use Rattle.answers.specs.Answers.{verdictAnswer, writtenAnswer, headingAnswer, entryAnswer, poolAnswer, Called}
+use Rattle.answers.specs.Answers.{verdictAnswer, writtenAnswer, headingAnswer, entryAnswer, poolAnswer, costAnswer, Called}
 use Rattle.answers.specs.declared.VerdictAnswer.{VerdictAnswer}
 use Rattle.answers.specs.declared.WrittenAnswer.{WrittenAnswer}
 use Rattle.answers.specs.declared.HeadingAnswer.{HeadingAnswer}
 use Rattle.answers.specs.declared.EntryAnswer.{EntryAnswer}
 use Rattle.answers.specs.declared.PoolAnswer.{PoolAnswer}
-use Rattle.demands.specs.Demand1.{onABook, onABalance, onAStatement, onRewriting, OneOf, Answered, written, short, refused, CheckAnswered, PoolAnswered, HeadingAnswered, EntryAnswered, EveryInputIsAnswered}
-use Rattle.demands.proofs.Numbers.{Within, verdict-numbers, outcome-numbers, statement-numbers, or-true}
+use Rattle.answers.specs.declared.CostAnswer.{CostAnswer}
+use Rattle.demands.specs.Demand1.{onABook, onABalance, onAStatement, onRewriting, onDispatchRows, OneOf, Answered, written, short, refused, CheckAnswered, PoolAnswered, HeadingAnswered, EntryAnswered, CostAnswered, EveryInputIsAnswered}
+use Rattle.demands.proofs.Numbers.{Among, Within, verdict-numbers, rows-numbers, outcome-numbers, statement-numbers, or-true}
 
 -- ---- the calls that write
 
@@ -76,10 +78,15 @@ line-answered true true s index r a = inr (rw a (refl, refl))
 line-answered true false s index r a = inl (rw a (refl, refl))
 line-answered false past₀ s index r a = inr (rw a (refl, refl))
 
+costed : (v : Verdict) → Among onDispatchRows v → (amount : ℕ) (r : CostAnswer) → r ≡ costAnswer (costIf v amount) → CostAnswered r
+unfolding costAnswer costIf
+costed Accepted h amount r a = inl (rw a (refl, refl))
+costed (Refused number place) h amount r a = inr (rw a (h number place refl, refl))
+
 -- ---- the demand
 
 pub every-input-is-answered : EveryInputIsAnswered
-unfolding balanceOf balancesIn headingRead lineRead rewritten unpacked has
+unfolding balanceOf balancesIn headingRead lineRead rewritten unpacked payment baseCost has
 every-input-is-answered =
     record {
       check = λ b. checked b (verdict b) refl;
@@ -89,4 +96,6 @@ every-input-is-answered =
       line = λ s index. line-answered (isStatement s) (leb (headingAt s .lines) index) s index;
       rewrite = λ s. called onRewriting (rewritten s) (statement-numbers s (statementBytes (headingAt s) (linesIn s (headingAt s .lines)))) refl;
       lines = λ s. called onRewriting (unpacked s) (statement-numbers s (allFields (linesIn s (headingAt s .lines)))) refl;
+      payment = λ s service. costed (rowsVerdict s) (rows-numbers s) _;
+      baseCost = λ s id service. costed (rowsVerdict s) (rows-numbers s) _;
     }

@@ -1,10 +1,16 @@
 -- Demand 3: no neighbour's figure. A statement is made from the public part of a book and the account's own rows, so books that agree in these give the
 -- same outcome, and the call's promise speaks of nothing else. Assumes nothing.
 use Prim.Native.Nat.{ℕ}
-use mathlib.Core.Path.{_≡_, sym, _∙_}
-use mathlib.Core.List.{List}
+use mathlib.Core.Path.{_≡_, refl, sym, ap, _∙_}
+use mathlib.Core.List.{List, [], _∷_, map}
+use Rattle.ground.specs.Inner.Each.{Each}
+use Rattle.sections.proofs.Cases.{zero-one}
+use Rattle.dispatch.specs.declared.Cost.the-variants.{Amount}
+use Rattle.records.specs.declared.rows.Constraint.{Constraint}
+use Rattle.book.specs.Book.{bookOf}
+use Rattle.accounts.specs.Account.{Public, publicOf}
 use Rattle.settlement.specs.Settle.{outcome}
-use Rattle.demands.specs.Demand3.{Agree, NoNeighboursFigure}
+use Rattle.demands.specs.Demand3.{Agree, NoNeighboursFigure, costless, costlessPublic, AgreeButForCosts, costsIn, Way, asPayment, asBaseCost, madeFrom, CostsMade, CostsArePublic}
 
 -- the outcome of one account is the same in both books
 same-outcome : (b c : List ℕ) (account : ℕ) → Agree b c account → outcome b account ≡ outcome c account
@@ -17,4 +23,76 @@ no-neighbours-figure =
       same = λ b c account l r s x y h p q.
           let e = same-outcome b c account h in
           record { answer = p .answer ∙ rw e (sym (q .answer)); bytes = p .left ∙ rw e (sym (q .left)) };
+    }
+
+-- ---- costs
+
+-- a constraint is what it is but for its cost, and its cost
+same-constraint : (a b : Constraint) → costless a ≡ costless b → a .cost ≡ b .cost → a ≡ b
+unfolding costless
+same-constraint a b e q =
+    λ j. record { id = e j .id; service = e j .service; mask = e j .mask; mode = e j .mode; spare = e j .spare; cost = q j; price = e j .price; rcr = e j .rcr; usage = e j .usage; prcf = e j .prcf; nrcf = e j .nrcf; drcf = e j .drcf; tail = e j .tail }
+
+-- the heads and the rests of two equal lists
+module _ {A : Type 0} where
+  same-head : (x y : A) (xs ys : List A) → (x ∷ xs) ≡ (y ∷ ys) → x ≡ y
+  same-head x y xs ys e = cc
+
+  same-rest : (x y : A) (xs ys : List A) → (x ∷ xs) ≡ (y ∷ ys) → xs ≡ ys
+  same-rest x y xs ys e = cc
+
+  none-some : (x : A) (xs : List A) → [] ≡ (x ∷ xs) → ⊥
+  none-some x xs e = zero-one cc
+
+-- so are constraints in order
+same-constraints : (xs ys : List Constraint) → map costless xs ≡ map costless ys → map (λ (r : Constraint). r .cost) xs ≡ map (λ (r : Constraint). r .cost) ys → xs ≡ ys
+same-constraints [] [] e q = refl
+same-constraints [] (y ∷ ys) e q = absurd (none-some _ _ e)
+same-constraints (x ∷ xs) [] e q = absurd (none-some _ _ (sym e))
+same-constraints (x ∷ xs) (y ∷ ys) e q =
+    let here = same-constraint x y (same-head _ _ _ _ e) (same-head _ _ _ _ q) in
+    let rest = same-constraints xs ys (same-rest _ _ _ _ e) (same-rest _ _ _ _ q) in
+    λ j. here j ∷ rest j
+
+-- costs that are made from the same rows are equal, where all else of the constraints is
+made-alike : (rows : List ℕ) (w : Way) (a b : Constraint) → costless a ≡ costless b → madeFrom rows w a ≡ madeFrom rows w b
+unfolding madeFrom costless
+made-alike rows asPayment a b e = ap (λ (r : Constraint). madeFrom rows asPayment r) e
+made-alike rows asBaseCost a b e = ap (λ (r : Constraint). madeFrom rows asBaseCost r) e
+
+same-id : (a b : Constraint) → costless a ≡ costless b → a .id ≡ b .id
+unfolding costless
+same-id a b e = ap (λ (r : Constraint). r .id) e
+
+same-amount : (m n : ℕ) → Amount m ≡ Amount n → m ≡ n
+same-amount m n e = cc
+
+same-costs : (rows : List ℕ) (way : ℕ → Way) (xs ys : List Constraint) → map costless xs ≡ map costless ys → Each (λ (r : Constraint). madeFrom rows (way (r .id)) r ≡ Amount (r .cost)) xs → Each (λ (r : Constraint). madeFrom rows (way (r .id)) r ≡ Amount (r .cost)) ys → map (λ (r : Constraint). r .cost) xs ≡ map (λ (r : Constraint). r .cost) ys
+same-costs rows way [] [] e p q = refl
+same-costs rows way [] (y ∷ ys) e p q = absurd (none-some _ _ e)
+same-costs rows way (x ∷ xs) [] e p q = absurd (none-some _ _ (sym e))
+same-costs rows way (x ∷ xs) (y ∷ ys) e p q =
+    let rest = same-costs rows way xs ys (same-rest _ _ _ _ e) (p .1) (q .1) in
+    λ j. here (same-head _ _ _ _ e) j ∷ rest j
+  where
+    here : costless x ≡ costless y → x .cost ≡ y .cost
+    here h =
+        same-amount (x .cost) (y .cost) (sym (p .0) ∙ ap (λ (n : ℕ). madeFrom rows (way n) x) (same-id x y h) ∙ made-alike rows (way (y .id)) x y h ∙ q .0)
+
+public-agrees : (p q : Public) → costlessPublic p ≡ costlessPublic q → map (λ (r : Constraint). r .cost) (p .constraints) ≡ map (λ (r : Constraint). r .cost) (q .constraints) → p ≡ q
+public-agrees p q e d =
+    let constraints = same-constraints (p .constraints) (q .constraints) (ap (λ (r : Public). r .constraints) e) d in
+    λ j. record { date = e j .date; interval = e j .interval; run = e j .run; entries = e j .entries; constraints = constraints j; contracts = e j .contracts }
+
+agrees : (b c : List ℕ) (account : ℕ) → AgreeButForCosts b c account → costsIn b ≡ costsIn c → Agree b c account
+agrees b c account h e =
+    record { first = h .first; second = h .second; public = public-agrees (publicOf (bookOf b)) (publicOf (bookOf c)) (h .public) e; own = h .ownRows }
+
+pub costs-are-public : CostsArePublic
+costs-are-public =
+    record {
+      field = λ b c account l r s x y h e. no-neighbours-figure .same b c account l r s x y (agrees b c account h e);
+      made = λ rows way b c account l r s x y h p q.
+          let e = same-costs rows way (publicOf (bookOf b) .constraints) (publicOf (bookOf c) .constraints) (ap (λ (u : Public). u .constraints) (h .public)) p q in
+          no-neighbours-figure .same b c account l r s x y (agrees b c account h e);
     }

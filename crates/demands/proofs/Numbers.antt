@@ -12,6 +12,7 @@ use Rattle.sections.specs.declared.Checked.the-variants.{Good, Bad}
 use Rattle.sections.specs.declared.Verdict.{Verdict}
 use Rattle.sections.specs.declared.Verdict.the-variants.{Accepted, Refused}
 use Rattle.sections.proofs.Cases.{zero-one}
+use Rattle.dispatch.specs.Dispatch.{rowsVerdict}
 use Rattle.book.specs.Book.{bookOf}
 use Rattle.book.specs.Table.{soundness, verdict, check1, check2, check3, check4, check5, check6, check7, check8, check9, check10}
 use Rattle.accounts.specs.Account.{publicOf, rowsOfAccount, unknown}
@@ -21,7 +22,7 @@ use Rattle.lines.specs.Limit.{anyOver}
 use Rattle.parsing.specs.Parsing.{isStatement}
 use Rattle.reading.specs.Calls.{ifStatement}
 use Rattle.settlement.specs.Settle.{linesOf, settled, outcomeIf, outcome}
-use Rattle.demands.specs.Demand1.{onABook, onAStatement, onRewriting, OneOf}
+use Rattle.demands.specs.Demand1.{onABook, onAStatement, onRewriting, onDispatchRows, OneOf}
 
 -- a verdict, and an outcome, that refuses only by one of the numbers
 abbrev pub Among : List ℕ → Verdict → Type 0
@@ -94,6 +95,11 @@ pub verdict-numbers : (b : List ℕ) → Among onABook (verdict b)
 unfolding verdict check10 has
 verdict-numbers b =
     among-first onABook _ (sound-numbers b, (among-first onABook _ (among-record onABook 10 _ _ _ refl, (among-record onABook 10 _ _ _ refl, tt)), tt))
+
+-- 16
+pub rows-numbers : (s : List ℕ) → Among onDispatchRows (rowsVerdict s)
+unfolding rowsVerdict has
+rows-numbers s = among-record onDispatchRows 16 _ _ _ refl
 
 -- ---- the calls that write
 

@@ -10,6 +10,7 @@ use lib.IntN.{pos}
 use lib.ListN.{length}
 use Rattle.ground.specs.Put.{put}
 use Rattle.sections.specs.declared.Verdict.the-variants.{Accepted, Refused}
+use Rattle.dispatch.specs.Dispatch.{payment, baseCost}
 use Rattle.book.specs.Table.{verdict}
 use Rattle.sharing.specs.Once.{has}
 use Rattle.statement.specs.Lent.{Outcome, refuses, gives}
@@ -18,12 +19,13 @@ use Rattle.reading.specs.Rewriting.{rewritten}
 use Rattle.unpacking.specs.Unpacking.{unpacked}
 use Rattle.settlement.specs.Settle.{outcome}
 use Rattle.balance.specs.Balance.{balanceOf}
-use Rattle.answers.specs.Answers.{verdictAnswer, headingAnswer, entryAnswer, poolAnswer, Called}
+use Rattle.answers.specs.Answers.{verdictAnswer, headingAnswer, entryAnswer, poolAnswer, costAnswer, Called}
 use Rattle.answers.specs.declared.VerdictAnswer.{VerdictAnswer}
 use Rattle.answers.specs.declared.WrittenAnswer.{WrittenAnswer}
 use Rattle.answers.specs.declared.HeadingAnswer.{HeadingAnswer}
 use Rattle.answers.specs.declared.EntryAnswer.{EntryAnswer}
 use Rattle.answers.specs.declared.PoolAnswer.{PoolAnswer}
+use Rattle.answers.specs.declared.CostAnswer.{CostAnswer}
 
 -- ---- the numbers of 01's table that each call can give
 
@@ -48,6 +50,10 @@ onALine = 14 ∷ 15 ∷ []
 
 abbrev pub onAHeader : List ℕ
 onAHeader = 14 ∷ []
+
+-- 02, Req 01: "Refusals: 16, the only one of this call"
+abbrev pub onDispatchRows : List ℕ
+onDispatchRows = 16 ∷ []
 
 abbrev pub OneOf : List ℕ → ℕ → Type 0
 OneOf numbers n = has n numbers ≡ true
@@ -93,6 +99,11 @@ EntryAnswered r =
     ((r .refusal ≡ 0) × (r .place ≡ 0))
     ⊎ (OneOf onALine (r .refusal) × (r ≡ record { refusal = r .refusal; place = 0; id = 0; part = 0; regions = 0; unit = 0; amount = pos 0 }))
 
+abbrev pub CostAnswered : CostAnswer → Type 0
+CostAnswered r =
+    ((r .refusal ≡ 0) × (r .place ≡ 0))
+    ⊎ (OneOf onDispatchRows (r .refusal) × (r ≡ record { refusal = r .refusal; place = r .place; amount = 0 }))
+
 -- ---- what the writing calls promise
 
 -- the statement call on book b, with a buffer that held l: r is what it answers, x what the buffer holds then
@@ -118,3 +129,5 @@ pub record EveryInputIsAnswered : Type 0 where
   pub line : (s : List ℕ) (index : ℕ) (r : EntryAnswer) → r ≡ entryAnswer (lineRead s index) → EntryAnswered r
   pub rewrite : (s l : List ℕ) (r : WrittenAnswer) (x : List ℕ) → RewriteCall s l r x → Answered onRewriting (rewritten s) l r x
   pub lines : (s l : List ℕ) (r : WrittenAnswer) (x : List ℕ) → LinesCall s l r x → Answered onRewriting (unpacked s) l r x
+  pub payment : (s : List ℕ) (service : ℕ) (r : CostAnswer) → r ≡ costAnswer (payment s service) → CostAnswered r
+  pub baseCost : (s : List ℕ) (id service : ℕ) (r : CostAnswer) → r ≡ costAnswer (baseCost s id service) → CostAnswered r

@@ -3,11 +3,16 @@
 -- refusals, whatever the other accounts hold."
 use Prim.Native.Nat.{ℕ}
 use mathlib.Core.Path.{_≡_}
-use mathlib.Core.List.{List}
+use mathlib.Core.List.{List, map}
+use Rattle.ground.specs.Inner.Each.{Each}
 use Rattle.sections.specs.declared.Verdict.the-variants.{Accepted}
+use Rattle.dispatch.specs.Dispatch.{payment, baseCost}
+use Rattle.dispatch.specs.declared.Cost.{Cost}
+use Rattle.dispatch.specs.declared.Cost.the-variants.{Amount}
+use Rattle.records.specs.declared.rows.Constraint.{Constraint}
 use Rattle.book.specs.Book.{bookOf}
 use Rattle.book.specs.Table.{verdict}
-use Rattle.accounts.specs.Account.{publicOf, rowsOfAccount}
+use Rattle.accounts.specs.Account.{Public, publicOf, rowsOfAccount}
 use Rattle.answers.specs.declared.WrittenAnswer.{WrittenAnswer}
 use Rattle.demands.specs.Demand1.{StatementCall}
 
@@ -29,3 +34,69 @@ pub record Same (r s : WrittenAnswer) (x y : List ℕ) : Type 0 where
 pub record NoNeighboursFigure : Type 0 where
   pub same : (b c : List ℕ) (account : ℕ) (l : List ℕ) (r s : WrittenAnswer) (x y : List ℕ) → Agree b c account
       → StatementCall b account l r x → StatementCall c account l s y → Same r s x y
+
+-- ---- costs. 02, Req 01: "Demands 2 and 3 read costs as public whichever way they came." A constraint's cost is one of its fields, and so it is
+-- ---- part of the public part already; a statement depends on it through that field and on nothing that it was made from
+
+-- a constraint, and the public part of a book, but for costs
+unfoldable pub costless : Constraint → Constraint
+costless r =
+    record {
+      id = r .id;
+      service = r .service;
+      mask = r .mask;
+      mode = r .mode;
+      spare = r .spare;
+      cost = 0;
+      price = r .price;
+      rcr = r .rcr;
+      usage = r .usage;
+      prcf = r .prcf;
+      nrcf = r .nrcf;
+      drcf = r .drcf;
+      tail = r .tail;
+    }
+
+abbrev pub costlessPublic : Public → Public
+costlessPublic p =
+    record {
+      date = p .date;
+      interval = p .interval;
+      run = p .run;
+      entries = p .entries;
+      constraints = map costless (p .constraints);
+      contracts = p .contracts;
+    }
+
+-- two accepted books agree but for their costs
+pub record AgreeButForCosts (b c : List ℕ) (account : ℕ) : Type 0 where
+  pub first : verdict b ≡ Accepted
+  pub second : verdict c ≡ Accepted
+  pub public : costlessPublic (publicOf (bookOf b)) ≡ costlessPublic (publicOf (bookOf c))
+  pub ownRows : rowsOfAccount (bookOf b) account ≡ rowsOfAccount (bookOf c) account
+
+-- the costs of a book's constraints, in order
+abbrev pub costsIn : List ℕ → List ℕ
+costsIn b = map (λ (r : Constraint). r .cost) (publicOf (bookOf b) .constraints)
+
+-- a cost is made from dispatch rows as the payment of the constraint's service, or as its own base cost
+pub data Way : Type 0 where
+  asPayment : Way
+  asBaseCost : Way
+
+unfoldable pub madeFrom : List ℕ → Way → Constraint → Cost
+madeFrom rows asPayment r = payment rows (r .service)
+madeFrom rows asBaseCost r = baseCost rows (r .id) (r .service)
+
+-- each cost of a book is made so; `way` says how, by the constraint's id
+abbrev pub CostsMade : List ℕ → (ℕ → Way) → List ℕ → Type 0
+CostsMade rows way b = Each (λ (r : Constraint). madeFrom rows (way (r .id)) r ≡ Amount (r .cost)) (publicOf (bookOf b) .constraints)
+
+pub record CostsArePublic : Type 0 where
+  -- books that agree but for their costs, and have equal numbers in the fields of these, wherever these came from
+  pub field : (b c : List ℕ) (account : ℕ) (l : List ℕ) (r s : WrittenAnswer) (x y : List ℕ) → AgreeButForCosts b c account
+      → costsIn b ≡ costsIn c → StatementCall b account l r x → StatementCall c account l s y → Same r s x y
+  -- books that agree but for their costs, and have these made from the same dispatch rows
+  pub made : (rows : List ℕ) (way : ℕ → Way) (b c : List ℕ) (account : ℕ) (l : List ℕ) (r s : WrittenAnswer) (x y : List ℕ)
+      → AgreeButForCosts b c account → CostsMade rows way b → CostsMade rows way c → StatementCall b account l r x → StatementCall c account l s y
+      → Same r s x y

@@ -6,7 +6,9 @@ ghost use Rattle.reading.specs.Rewriting.{rewritten};
 ghost use Rattle.unpacking.specs.Unpacking.{unpacked};
 ghost use Rattle.settlement.specs.Settle.{outcome};
 ghost use Rattle.balance.specs.Balance.{balanceOf};
-ghost use Rattle.answers.specs.Answers.{verdictAnswer, headingAnswer, entryAnswer, poolAnswer, Called};
+ghost use Rattle.dispatch.specs.Dispatch.{payment, baseCost};
+ghost use Rattle.answers.specs.Answers.{verdictAnswer, headingAnswer, entryAnswer, poolAnswer, costAnswer, Called};
+use answers::CostAnswer;
 use answers::EntryAnswer;
 use answers::HeadingAnswer;
 use answers::PoolAnswer;
@@ -71,4 +73,20 @@ pub extern "C" fn fervolatro_balance(book: &[u8], number: u64) -> PoolAnswer
     ensures { λ r. ⌜ r ≡ poolAnswer (balanceOf (now (book .entry)) number) ⌝ }
 {
     answers::pool(balance::pool_balance(book, number))
+}
+
+// The payment of a service, from dispatch rows.
+#[no_mangle]
+pub extern "C" fn fervolatro_payment(rows: &[u8], service: u64) -> CostAnswer
+    ensures { λ r. ⌜ r ≡ costAnswer (payment (now (rows .entry)) service) ⌝ }
+{
+    answers::cost(dispatch::payment(rows, service))
+}
+
+// The base cost of a constraint for a service, from dispatch rows.
+#[no_mangle]
+pub extern "C" fn fervolatro_base_cost(rows: &[u8], id: u32, service: u64) -> CostAnswer
+    ensures { λ r. ⌜ r ≡ costAnswer (baseCost (now (rows .entry)) id service) ⌝ }
+{
+    answers::cost(dispatch::base_cost(rows, id, service))
 }

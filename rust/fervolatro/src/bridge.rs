@@ -4,7 +4,7 @@
 //! FERVOLATRO_BRIDGE is set, the program that it names is started instead, with no
 //! arguments.
 
-use crate::calls::{Entry, Heading, Pool, Verdict, Written};
+use crate::calls::{Cost, Entry, Heading, Pool, Verdict, Written};
 use std::cell::RefCell;
 use std::env;
 use std::io::{Read, Write};
@@ -172,4 +172,27 @@ pub(crate) fn lines(statement: &[u8], buffer: &mut [u8]) -> Written {
 
 pub(crate) fn rewrite(statement: &[u8], buffer: &mut [u8]) -> Written {
     ask_to_write(request(b'r', statement), buffer)
+}
+
+/// Sends a request, and reads its answer of a cost.
+fn ask_cost(request: &[u8]) -> Cost {
+    let [refusal, place, amount] = ask(request);
+    Cost {
+        refusal,
+        place,
+        amount,
+    }
+}
+
+pub(crate) fn payment(rows: &[u8], service: u64) -> Cost {
+    let mut request = request(b'p', rows);
+    request.extend_from_slice(&service.to_le_bytes());
+    ask_cost(&request)
+}
+
+pub(crate) fn base_cost(rows: &[u8], id: u32, service: u64) -> Cost {
+    let mut request = request(b'k', rows);
+    request.extend_from_slice(&id.to_le_bytes());
+    request.extend_from_slice(&service.to_le_bytes());
+    ask_cost(&request)
 }

@@ -52,6 +52,14 @@ pub(crate) struct Entry {
     pub(crate) amount: i64,
 }
 
+/// `fervolatro_cost` of `include/fervolatro.h`.
+#[repr(C)]
+pub(crate) struct Cost {
+    pub(crate) refusal: u64,
+    pub(crate) place: u64,
+    pub(crate) amount: u64,
+}
+
 /// Whether the call was accepted. What is accepted has place 0, and a refusal's other
 /// fields are all 0: what the library never answers is not passed over in silence.
 pub(crate) fn accepted(refusal: u64, place: u64, is_empty: bool) -> Result<(), Refusal> {
@@ -79,14 +87,26 @@ impl Written {
     }
 }
 
+impl Cost {
+    /// The answer as a result. A refusal has no amount.
+    pub(crate) fn into_result(self) -> Result<u64, Refusal> {
+        accepted(self.refusal, self.place, self.amount == 0)?;
+        Ok(self.amount)
+    }
+}
+
 #[cfg(not(any(target_arch = "x86_64", feature = "native")))]
-pub(crate) use crate::bridge::{balance, check, header, line, lines, rewrite, statement};
+pub(crate) use crate::bridge::{
+    balance, base_cost, check, header, line, lines, payment, rewrite, statement,
+};
 #[cfg(any(target_arch = "x86_64", feature = "native"))]
-pub(crate) use linked::{balance, check, header, line, lines, rewrite, statement};
+pub(crate) use linked::{
+    balance, base_cost, check, header, line, lines, payment, rewrite, statement,
+};
 
 #[cfg(any(target_arch = "x86_64", feature = "native"))]
 mod linked {
-    use super::{Entry, Heading, Pool, Verdict, Written};
+    use super::{Cost, Entry, Heading, Pool, Verdict, Written};
 
     extern "C" {
         fn fervolatro_check(book: *const u8, book_len: usize) -> Verdict;
@@ -118,6 +138,10 @@ mod linked {
             buffer: *mut u8,
             buffer_len: usize,
         ) -> Written;
+
+        fn fervolatro_payment(rows: *const u8, rows_len: usize, service: u64) -> Cost;
+
+        fn fervolatro_base_cost(rows: *const u8, rows_len: usize, id: u32, service: u64) -> Cost;
     }
 
     pub(crate) fn check(book: &[u8]) -> Verdict {
@@ -178,11 +202,21 @@ mod linked {
             )
         }
     }
+
+    pub(crate) fn payment(rows: &[u8], service: u64) -> Cost {
+        // SAFETY: as for a check.
+        unsafe { fervolatro_payment(rows.as_ptr(), rows.len(), service) }
+    }
+
+    pub(crate) fn base_cost(rows: &[u8], id: u32, service: u64) -> Cost {
+        // SAFETY: as for a check.
+        unsafe { fervolatro_base_cost(rows.as_ptr(), rows.len(), id, service) }
+    }
 }
 
 #[cfg(test)]
 mod tests {
-    use super::{Entry, Heading, Pool, Verdict, Written};
+    use super::{Cost, Entry, Heading, Pool, Verdict, Written};
     use std::mem::offset_of;
 
     const HEADER: &str = include_str!("../../../include/fervolatro.h");
@@ -217,6 +251,7 @@ mod tests {
             refusal place account date interval run lines);
         assert_layout!(Entry, "fervolatro_entry", 56:
             refusal place id part regions unit amount);
+        assert_layout!(Cost, "fervolatro_cost", 24: refusal place amount);
         // The numbers of a line, which `Line::of` takes in this order.
         let fields = ["id", "part", "regions", "unit", "amount"];
         let numbers = fields.into_iter().zip((0..).step_by(8));

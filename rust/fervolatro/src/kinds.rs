@@ -70,6 +70,13 @@ impl Service {
     }
 }
 
+/// A call that asks for a service takes any number: a service stands for its own.
+impl From<Service> for u64 {
+    fn from(service: Service) -> Self {
+        service.number().into()
+    }
+}
+
 /// A set of regions, as the mask of a constraint or of a line has it.
 ///
 /// ```
@@ -151,6 +158,12 @@ mod tests {
             assert_eq!(service.words().ends_with("raise"), service.is_raise());
             assert_eq!(service.is_regulation(), service.number() >= 9, "{service}");
         }
+    }
+
+    #[test]
+    fn services_are_the_numbers_1_to_10() {
+        let numbers = Service::ALL.iter().map(|&service| u64::from(service));
+        assert!(numbers.eq(1..=10));
     }
 
     /// Every mask of five bits is the set of its regions, and no other is one.

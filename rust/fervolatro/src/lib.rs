@@ -1,14 +1,16 @@
 //! The Fervolatro library: books of one five-minute trading interval are checked and
-//! settled, statements are read back.
+//! settled, statements are read back, costs are made from dispatch rows.
 //!
-//! A book and a statement are bytes; `docs/BOOK.md` of the repository has their
-//! layout and the rules. Every call answers any bytes, and is proved to answer what
-//! the rules say.
+//! A book, a statement and dispatch rows are bytes; `docs/BOOK.md` of the repository has
+//! their layout and the rules. Every call answers any bytes, and is proved to answer
+//! what the rules say.
 //!
 //! - [`check`] says whether a book is accepted, and if not, why and where.
 //! - [`statement()`] gives an account's statement, [`accounts`] the accounts there are.
 //! - [`balance`] gives the balance of a pool, [`pools`] the pools there are.
 //! - [`Statement::read`] reads a statement: its heading, and its lines one by one.
+//! - [`payment`] gives a service's payment, [`base_cost`] a constraint's base cost, from
+//!   dispatch rows.
 //!
 //! Where nothing may be allocated, [`statement_into`], [`header`], [`line()`],
 //! [`lines_into`] and [`rewrite_into`] do the same with bytes that are lent to them.
@@ -33,6 +35,7 @@ mod book;
 ))]
 mod bridge;
 mod calls;
+mod dispatch;
 mod kinds;
 mod numbered;
 mod refusal;
@@ -42,6 +45,7 @@ pub use book::{
     accounts, balance, check, pools, statement, statement_into, Balance, Pool, PoolKind, Source,
     LARGEST_BOOK,
 };
+pub use dispatch::{base_cost, payment, DISPATCH_ROW_SIZE};
 pub use kinds::{Mode, Part, Region, Regions, Service};
 pub use refusal::{Reason, Refusal};
 pub use statement::{

@@ -49,7 +49,9 @@ pub(crate) use numbered;
 #[cfg(test)]
 mod tests {
     use crate::{Mode, Part, Reason, Region, Service};
-    use crate::{LARGEST_BOOK, LARGEST_STATEMENT, LINE_NUMBERS_SIZE, MOST_LINES};
+    use crate::{
+        DISPATCH_ROW_SIZE, LARGEST_BOOK, LARGEST_STATEMENT, LINE_NUMBERS_SIZE, MOST_LINES,
+    };
     use std::fmt::Debug;
 
     const HEADER: &str = include_str!("../../../include/fervolatro.h");
@@ -110,6 +112,7 @@ mod tests {
         defined("LARGEST_BOOK", LARGEST_BOOK);
         defined("LARGEST_STATEMENT", LARGEST_STATEMENT);
         defined("MOST_LINES", MOST_LINES);
+        defined("DISPATCH_ROW_SIZE", DISPATCH_ROW_SIZE);
         assert!(HEADER.contains(&format!("its length is {LINE_NUMBERS_SIZE} x lines")));
     }
 }

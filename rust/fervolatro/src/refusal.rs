@@ -8,7 +8,8 @@ use crate::numbered::numbered;
 numbered! {
     /// The reasons for a refusal, as the rules number them: 1 to 10 come from every
     /// call on a book, 11 to 13 from writing its statement, 15 from asking for a
-    /// balance; 13 to 15 from a call on a statement. The lowest that applies is given.
+    /// balance; 13 to 15 from a call on a statement; 16 from a call on dispatch rows.
+    /// The lowest that applies is given.
     Reason {
         Short = 1, "book shorter than 84 bytes";
         Mark = 2, "mark, version or a reserved header byte wrong";
@@ -25,10 +26,18 @@ numbered! {
         Buffer = 13, "lent buffer shorter than the statement";
         NoStatement = 14, "bytes are not a statement";
         PastEnd = 15, "pool or line number past the end";
+        DispatchRow = 16, "a dispatch row that is cut short, out of range, not rising, has a product above 600,000,000,000 or takes a sum past 50,000,000,000";
     }
 }
 
-/// A refusal: why, and at which record.
+impl Reason {
+    /// Whether it is one record's or one row's, so that its place is to be told.
+    const fn has_place(self) -> bool {
+        matches!(self.number(), 5..=10 | 16)
+    }
+}
+
+/// A refusal: why, and at which record or row.
 ///
 /// ```
 /// let refusal = fervolatro::check(b"RCB").unwrap_err();
@@ -40,8 +49,9 @@ numbered! {
 pub struct Refusal {
     /// Why.
     pub reason: Reason,
-    /// Where the record at fault starts, in bytes from the start of the book; 0 where
-    /// no record is, as with every reason but 5 to 10.
+    /// Where the record at fault starts, in bytes from the start of the book, or the
+    /// dispatch row, in bytes from the start of the rows. 0 where it is no record's and
+    /// no row's, as with every reason but 5 to 10 and 16.
     pub place: usize,
 }
 
@@ -55,8 +65,8 @@ impl Refusal {
     pub(crate) fn of(number: u64, place: u64) -> Self {
         let reason = u8::try_from(number).ok().and_then(Reason::from_number);
         Refusal {
-            reason: reason.expect("refusals are numbered 1 to 15"),
-            place: usize::try_from(place).expect("a place lies within the book"),
+            reason: reason.expect("refusals are numbered 1 to 16"),
+            place: usize::try_from(place).expect("a place lies within the lent bytes"),
         }
     }
 }
@@ -64,9 +74,9 @@ impl Refusal {
 impl fmt::Display for Refusal {
     fn fmt(&self, out: &mut fmt::Formatter<'_>) -> fmt::Result {
         let Refusal { reason, place } = self;
-        match place {
-            0 => write!(out, "refusal {}: {reason}", self.number()),
-            _ => write!(out, "refusal {} at {place}: {reason}", self.number()),
+        match reason.has_place() {
+            false => write!(out, "refusal {}: {reason}", self.number()),
+            true => write!(out, "refusal {} at {place}: {reason}", self.number()),
         }
     }
 }
@@ -78,7 +88,7 @@ mod tests {
     use super::{Reason, Refusal};
 
     /// The meaning of every number, as the rules' table has it.
-    const SAID: [&str; 15] = [
+    const SAID: [&str; 16] = [
         "refusal 1: book shorter than 84 bytes",
         "refusal 2: mark, version or a reserved header byte wrong",
         "refusal 3: interval, date, run or a count out of its range",
@@ -95,6 +105,9 @@ mod tests {
         "refusal 13: lent buffer shorter than the statement",
         "refusal 14: bytes are not a statement",
         "refusal 15: pool or line number past the end",
+        // The first row stands at the start of the rows.
+        "refusal 16 at 0: a dispatch row that is cut short, out of range, not rising, has a product \
+         above 600,000,000,000 or takes a sum past 50,000,000,000",
     ];
 
     #[test]
@@ -109,9 +122,9 @@ mod tests {
     }
 
     #[test]
-    #[should_panic(expected = "refusals are numbered 1 to 15")]
+    #[should_panic(expected = "refusals are numbered 1 to 16")]
     fn a_number_that_no_refusal_has_is_not_passed_over() {
-        Refusal::of(16, 0);
+        Refusal::of(17, 0);
     }
 
     /// What `?` and `Box<dyn Error>` ask for.

@@ -8,9 +8,9 @@ pub use fervolatro::{Balance, Heading};
 /// Why a call is refused.
 #[derive(Clone, Copy, Debug, PartialEq, Eq)]
 pub struct Refusal {
-    /// The number of the refusal as in the scope document's table.
+    /// The number of the refusal as in the scope document's table; 16 of a dispatch row.
     pub number: u8,
-    /// The offset of the record at fault, or 0 where the number has no record.
+    /// The offset of the record or the row at fault, or 0 where the number has none.
     pub place: usize,
 }
 

@@ -1,4 +1,4 @@
-//! Numbers and records as bytes, little-endian, for the book and the statement.
+//! Numbers and records as bytes, little-endian, for books, statements and dispatch rows.
 
 /// What has a fixed number of bytes, little-endian.
 pub trait Field {

@@ -2,15 +2,17 @@
 //!
 //! [`library`] asks the library, through the package for users, for plain numbers.
 //! [`mod@reference`] is a second, independent statement of the same rules, written from
-//! the scope document (01) alone; [`book`] and [`statement`] have the records and their
-//! bytes, [`requests`] what books and statements are made with, [`harness`] what
-//! compares the two on some hundred thousand of each. [`fast`] is the same once more,
-//! written for speed, for the benchmark to hold the library against.
+//! the scope document (01) and the request for costs (02, Req 01) alone; [`book`],
+//! [`statement`] and [`dispatch`] have the records and their bytes, [`requests`] what
+//! books, statements and dispatch rows are made with, [`harness`] what compares the two
+//! on some hundred thousand of each. [`fast`] is the same once more, written for speed,
+//! for the benchmark to hold the library against.
 
 use std::path::PathBuf;
 
 mod answers;
 pub mod book;
+pub mod dispatch;
 pub mod fast;
 pub mod field;
 pub mod harness;

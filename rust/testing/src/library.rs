@@ -61,6 +61,14 @@ pub fn whole_rewrite(statement: &[u8]) -> Result<Vec<u8>, Refusal> {
     fervolatro::rewrite(statement).map_err(plain)
 }
 
+pub fn payment(rows: &[u8], service: u64) -> Result<u64, Refusal> {
+    fervolatro::payment(rows, service).map_err(plain)
+}
+
+pub fn base_cost(rows: &[u8], id: u32, service: u64) -> Result<u64, Refusal> {
+    fervolatro::base_cost(rows, id, service).map_err(plain)
+}
+
 fn kind(kind: PoolKind) -> Kind {
     match kind {
         PoolKind::Contingency => Kind::Contingency,

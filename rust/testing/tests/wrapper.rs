@@ -1,10 +1,11 @@
 //! What the package for users adds to the library's calls: lists of accounts and pools,
-//! statements of just their length, lines one by one. The expected values are worked out
-//! by hand; `by_hand.rs` has those of the other book.
+//! statements of just their length, lines one by one, services by their names. The
+//! expected values are worked out by hand; `by_hand.rs` has those of the other book.
 
 use fervolatro::{
     Mode, Part, Pool, PoolKind, Reason, Refusal, Region, Regions, Service, Source, Statement,
 };
+use fervolatro_testing::dispatch::{encode, Row};
 use fervolatro_testing::requests::generate::book_of_longest_statement;
 use fervolatro_testing::requests::random::Random;
 use fervolatro_testing::requests::worked::{
@@ -157,4 +158,69 @@ fn no_statement_is_refused_with_14() {
         fervolatro::rewrite(&vec![0; 60_000]),
         refused(Reason::NoStatement, 0)
     );
+}
+
+/// A payment row of $98.81 and 50 MW in NSW1, and constraint 500's of $83.17 and 50 MW in
+/// TAS1, both of raise regulation: 9,881 x 5,000 / 12 = 4,117,083.33 and 8,317 x 5,000 / 12
+/// = 3,465,416.67.
+fn dispatch_rows() -> Vec<u8> {
+    encode(&[
+        Row::of(0, 9, 0, (9_881, 5_000)),
+        Row::of(500, 9, 3, (8_317, 5_000)),
+    ])
+}
+
+/// A service is asked for by its name, or by any number.
+#[test]
+fn costs_of_a_service() {
+    let rows = dispatch_rows();
+    let paid = fervolatro::payment(&rows, Service::RegulationRaise);
+    assert_eq!(paid, Ok(4_117_083));
+    let cost = fervolatro::base_cost(&rows, 500, Service::RegulationRaise);
+    assert_eq!(cost, Ok(3_465_417));
+    assert_eq!(fervolatro::payment(&rows, 9_u8), paid);
+    assert_eq!(fervolatro::payment(&rows, 9_u64), paid);
+    assert_eq!(fervolatro::base_cost(&rows, 500, 9_u32), cost);
+    for &service in &Service::ALL[..8] {
+        assert_eq!(fervolatro::payment(&rows, service), Ok(0), "{service}");
+        let cost = fervolatro::base_cost(&rows, 500, service);
+        assert_eq!(cost, Ok(0), "{service}");
+    }
+    assert_eq!(fervolatro::payment(&rows, u64::MAX), Ok(0));
+    assert_eq!(fervolatro::base_cost(&rows, 0, 9_u8), Ok(0));
+    assert_eq!(fervolatro::payment(&[], Service::RegulationRaise), Ok(0));
+}
+
+/// The place is the row's, in bytes from the start of the rows; 0 is the first row's.
+#[test]
+fn bad_dispatch_rows_are_refused_with_16() {
+    let mut rows = dispatch_rows();
+    rows[16 + 4] = 11; // the second row's service
+    let paid = fervolatro::payment(&rows, Service::RegulationRaise);
+    assert_eq!(paid, refused(Reason::DispatchRow, 16));
+    let cost = fervolatro::base_cost(&rows, 7, 0_u64);
+    assert_eq!(cost, refused(Reason::DispatchRow, 16));
+    let cut_short = fervolatro::payment(&rows[..15], Service::RegulationRaise);
+    assert_eq!(cut_short, refused(Reason::DispatchRow, 0));
+    let said = cut_short.map_err(|refusal| refusal.to_string());
+    let words = "a dispatch row that is cut short, out of range, not rising, has a product above \
+                 600,000,000,000 or takes a sum past 50,000,000,000";
+    assert_eq!(said, Err(format!("refusal 16 at 0: {words}")));
+}
+
+/// A base cost is a constraint's cost in a book, up to the highest: 600,000 x 1,000,000 /
+/// 12 = 50,000,000,000.
+#[test]
+fn base_costs_are_costs_of_a_book() {
+    for (pair, made) in [
+        ((8_317, 5_000), 3_465_417),
+        ((600_000, 1_000_000), 50_000_000_000),
+    ] {
+        let rows = encode(&[Row::of(500, 9, 0, pair)]);
+        let cost = fervolatro::base_cost(&rows, 500, Service::RegulationRaise);
+        assert_eq!(cost, Ok(made));
+        let mut book = worked_book();
+        book.constraints[0].cost = made.cast_signed();
+        assert_eq!(fervolatro::check(&book.encode()), Ok(()));
+    }
 }

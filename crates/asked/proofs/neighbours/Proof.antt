@@ -1,6 +1,6 @@
 -- `asked::neighbours` meets its contract: the demands' theorems, of what the call promises. Each element of a lent slice is a byte. Assumes nothing.
 use borrow.Author.Needs.{needs}
-use Rattle.demands.proofs.Demand3.{no-neighbours-figure}
+use Rattle.demands.proofs.Demand3.{no-neighbours-figure, costs-are-public}
 use Rattle.asked.proofs.neighbours.Statement.{statement}
 use Rattle.asked.proofs.neighbours.Tie as tie
 use Rattle.asked.proofs.neighbours.Reads as reads
@@ -20,7 +20,12 @@ same-length-2 : tie.Need-same-length-2
 same-length-2 c = search needs
 
 returns : tie.Need-returns
-returns c = λ agree equal. no-neighbours-figure .same _ _ _ _ _ _ _ _ agree (c .before .before .before .before .before .before .fervolatro-statement .ensures) (rw (← equal) at (c .before .before .fervolatro-statement2 .ensures))
+returns c =
+    let first = c .before .before .before .before .before .before .fervolatro-statement .ensures in
+    let second = c .before .before .fervolatro-statement2 .ensures in (
+      λ agree equal. no-neighbours-figure .same _ _ _ _ _ _ _ _ agree first (rw (← equal) at second),
+      λ rows way agree made also equal. costs-are-public .made rows way _ _ _ _ _ _ _ _ agree made also first (rw (← equal) at second),
+    )
 
 pub neighbours-spec : {M : Type 1} → statement M
 neighbours-spec =

@@ -1,5 +1,5 @@
 //! Times the library beside the fast Rust version (`testing/src/fast`), in one run and on the
-//! same books, and sees how much stack the library's calls use.
+//! same books and dispatch rows, and sees how much stack the library's calls use.
 //!
 //!     tests/native                  (only where the machine is not x86-64)
 //!     cd rust && cargo run --release --offline --features native --example benchmark
@@ -8,12 +8,14 @@
 //! the machine does can only add to it.
 
 mod books;
+mod dispatch;
 mod stack;
 mod timing;
 
 use std::hint::black_box;
 
 use books::Asked;
+use dispatch::Rows;
 use fervolatro_testing::book::Book;
 use fervolatro_testing::fast::Fields;
 use fervolatro_testing::reference::{Kind, Pool};
@@ -55,6 +57,7 @@ fn main() {
     for asked in &books {
         balances(asked);
     }
+    costs();
     chosen_accounts(&books[2]);
     growth();
     stack::print(&books);
@@ -167,6 +170,36 @@ fn fullest(book: &[u8], kind: Kind) -> Option<u64> {
         .filter(|(_, pool)| pool.kind == kind)
         .max_by_key(|(number, pool)| asks_for(pool, *number))
         .map(|(number, _)| number)
+}
+
+/// A payment and a base cost, of few dispatch rows and of many.
+fn costs() {
+    for count in [1_000, 100_000] {
+        let rows = dispatch::rows(count);
+        let (name, bytes) = (&rows.name, rows.bytes.len());
+        println!("{}", payment(&rows).row_of("payment", name, bytes));
+        println!("{}", base_cost(&rows).row_of("base cost", name, bytes));
+    }
+}
+
+fn payment(asked: &Rows) -> Times {
+    let (rows, service) = (&asked.bytes[..], asked.service);
+    let theirs = library::payment(rows, service);
+    assert_eq!(theirs, fast::payment(rows, service), "{}", asked.name);
+    side_by_side(
+        || fervolatro::payment(black_box(rows), service).is_ok(),
+        || fast::payment(black_box(rows), service).is_ok(),
+    )
+}
+
+fn base_cost(asked: &Rows) -> Times {
+    let (rows, id, service) = (&asked.bytes[..], asked.id, asked.service);
+    let theirs = library::base_cost(rows, id, service);
+    assert_eq!(theirs, fast::base_cost(rows, id, service), "{}", asked.name);
+    side_by_side(
+        || fervolatro::base_cost(black_box(rows), id, service).is_ok(),
+        || fast::base_cost(black_box(rows), id, service).is_ok(),
+    )
 }
 
 /// The library's average balance of books whose accounts are chosen against its count of

@@ -84,15 +84,19 @@ impl Times {
         }
     }
 
-    /// A row of the table. The ratio is library to fast: 1 and below is as fast.
+    /// A row of the table, for a book or a statement.
     pub fn row(&self, call: &str, asked: &Asked) -> String {
+        self.row_of(call, &asked.name, asked.bytes.len())
+    }
+
+    /// A row of the table, for so many bytes of this name. The ratio is library to fast: 1
+    /// and below is as fast.
+    pub fn row_of(&self, call: &str, name: &str, bytes: usize) -> String {
         let Times { library, fast } = *self;
-        let bytes = asked.bytes.len();
         // Bytes per nanosecond are thousands of megabytes per second.
         let rate = |time: f64| 1_000.0 * bytes as f64 / time;
         format!(
-            "{call:<21} {:<24} {bytes:>6} {library:>13.1} {fast:>13.1} {:>13.0} {:>10.0} {:>6.2}",
-            asked.name,
+            "{call:<21} {name:<23} {bytes:>7} {library:>13.1} {fast:>13.1} {:>13.0} {:>10.0} {:>6.2}",
             rate(library),
             rate(fast),
             library / fast

@@ -2,10 +2,12 @@
 //! against. Nothing is allocated, and no unit row or energy row is passed more than
 //! twice, once to check it and once to settle it.
 //!
-//! It is no second reference: `tests/fast.rs` compares it with that one.
+//! It is no second reference: `tests/fast.rs` and `tests/dispatch.rs` compare it with
+//! that one.
 
 mod balance;
 mod check;
+mod dispatch;
 mod layout;
 mod lines;
 mod shares;
@@ -13,5 +15,6 @@ mod statement;
 
 pub use balance::balance;
 pub use check::check;
+pub use dispatch::{base_cost, payment};
 pub use lines::{lines, Fields};
 pub use statement::statement;

@@ -5,7 +5,7 @@ use crate::reference::Kind;
 use crate::{library, reference, Balance, Entry, Heading, Refusal};
 
 /// A call, with what it takes beside the bytes: an account, a pool, the index of a line,
-/// and how many bytes the buffer has.
+/// a constraint's id and a service, and how many bytes the buffer has.
 #[derive(Clone, Copy, Debug)]
 pub enum Call {
     Check,
@@ -20,6 +20,8 @@ pub enum Call {
     Unpack { room: usize },
     Rewrite { room: usize },
     WholeRewrite,
+    Payment { service: u64 },
+    BaseCost { id: u32, service: u64 },
 }
 
 impl Call {
@@ -46,6 +48,8 @@ impl Call {
             Call::Unpack { .. } => "unpack",
             Call::Rewrite { .. } => "rewrite",
             Call::WholeRewrite => "whole rewrite",
+            Call::Payment { .. } => "payment",
+            Call::BaseCost { .. } => "base cost",
         }
     }
 }
@@ -63,6 +67,7 @@ pub enum Answer {
     Heading(Heading),
     Line(Entry),
     Lines(Vec<Entry>),
+    Amount(u64),
 }
 
 /// What a call is answered by.
@@ -97,6 +102,10 @@ macro_rules! side {
                 Call::Unpack { .. } => $of::unpack(bytes, buffer).map(Answer::Length),
                 Call::Rewrite { .. } => $of::rewrite(bytes, buffer).map(Answer::Length),
                 Call::WholeRewrite => $of::whole_rewrite(bytes).map(Answer::Bytes),
+                Call::Payment { service } => $of::payment(bytes, service).map(Answer::Amount),
+                Call::BaseCost { id, service } => {
+                    $of::base_cost(bytes, id, service).map(Answer::Amount)
+                }
             },
         }
     };
@@ -116,6 +125,8 @@ pub const FAST: Side = Side {
         }
         Call::Balance { pool } => fast::balance(bytes, pool).map(Answer::Balance),
         Call::Unpack { .. } => fast_unpack(bytes, buffer).map(Answer::Length),
+        Call::Payment { service } => fast::payment(bytes, service).map(Answer::Amount),
+        Call::BaseCost { id, service } => fast::base_cost(bytes, id, service).map(Answer::Amount),
         _ => panic!("the fast version has no {}", call.name()),
     },
 };

@@ -33,6 +33,9 @@ pub struct Wanted<'w> {
     pub seen: Vec<(String, u64)>,
 }
 
+/// How often each answer came: 0, or a refusal's number, of which 16 is the highest.
+type Counts = [u64; 17];
+
 pub struct Run {
     pub random: Random,
     pub(super) units: Units,
@@ -40,7 +43,7 @@ pub struct Run {
     tested: Side,
     family: &'static str,
     inputs: BTreeMap<&'static str, u64>,
-    answers: BTreeMap<&'static str, [u64; 16]>,
+    answers: BTreeMap<&'static str, Counts>,
     seen: BTreeMap<String, u64>,
 }
 

@@ -1,10 +1,12 @@
 //! The reference: the rules of the scope document (01), written from it alone
-//! and in its order. Where 01 has a sentence for a rule, that sentence stands
-//! over it. It is written to be compared with 01 by eye, not for speed.
+//! and in its order; likewise those of the request for costs (02, Req 01). Where
+//! they have a sentence for a rule, that sentence stands over it. It is written
+//! to be compared with them by eye, not for speed.
 
 mod amounts;
 mod balance;
 mod check;
+mod dispatch;
 mod listing;
 mod reading;
 mod statement;
@@ -12,6 +14,7 @@ mod statement;
 pub use amounts::round;
 pub use balance::{accounts, balance, balances, pools, pools_by_number, Balances, Kind, Pool};
 pub use check::check;
+pub use dispatch::{base_cost, costs, payment, Costs};
 pub use listing::{listed, listing};
 pub use reading::{header, line, lines, read, rewrite, unpack, whole_rewrite};
 pub use statement::{settle, statement, whole_statement};

@@ -1,5 +1,6 @@
 //! The range of every field of every record, to set a field just inside and just
-//! past each end of it, in the bytes of a book or a statement and back again.
+//! past each end of it, in the bytes of a book, a statement or dispatch rows, and back
+//! again.
 
 use crate::book::{Section, Sections};
 
@@ -147,6 +148,16 @@ pub const LINE: &[Edged] = &[
     reserved(15),
     field(16, 8, -MONEY, MONEY),
     field(16, 8, -MONEY, 0),
+];
+
+pub const DISPATCH_ROW: &[Edged] = &[
+    field(0, 4, 0, u32::MAX as i64),
+    field(4, 1, 1, 10),
+    field(5, 1, 0, 4),
+    reserved(6),
+    reserved(7),
+    field(8, 4, 0, 2_500_000),
+    field(12, 4, 0, 1_000_000),
 ];
 
 /// Each section of a book with the fields of its records.

@@ -1,10 +1,12 @@
-//! What the tests build books and statements with: repeatable random numbers, the
-//! worked book, accepted books of every size, the accounts in them, statements of
-//! any lines, and the ways in which either can be wrong, or right but different.
+//! What the tests build books, statements and dispatch rows with: repeatable random
+//! numbers, the worked book, accepted books of every size, the accounts in them,
+//! statements of any lines, good dispatch rows, and the ways in which each can be wrong,
+//! or right but different.
 
 pub mod accounts;
 pub mod chosen;
 pub mod damage;
+pub mod dispatch;
 pub mod edges;
 pub mod faults;
 pub mod generate;

@@ -28,6 +28,7 @@ const READING: &str = "crates/parsing/specs/Parsing.antt";
 const CALLS: &str = "crates/reading/specs/Calls.antt";
 const ANSWERS: &str = "crates/answers/specs/Answers.antt";
 const KINDS: &str = "crates/market/specs/Kinds.antt";
+const DISPATCH: &str = "crates/dispatch/specs/Dispatch.antt";
 const MARKET: &str = "crates/market/src/lib.rt";
 const MANIFEST: &str = "rust/Cargo.toml";
 
@@ -69,6 +70,14 @@ const PLACES: &[(&str, &str)] = &[
     (READING, "leb (natAbs z) moneyLimit"),
     (RULES, "leb (r .cost) moneyLimit"),
     (RULES, "leb (r .payment) moneyLimit"),
+    (DISPATCH, "id = u32At s (i * {DISPATCH_ROW_SIZE})"),
+    (UNITS, "priceLimit = {MOST_PRICE}"),
+    (DISPATCH, "leb (r .price) priceLimit"),
+    (DISPATCH, "enablementLimit = {MOST_ENABLEMENT}"),
+    (DISPATCH, "leb (r .enablement) enablementLimit"),
+    (DISPATCH, "productLimit = {MOST_PRODUCT}"),
+    (DISPATCH, "leb (productOf (dispatchRow s i)) productLimit"),
+    (DISPATCH, "(i + 1)) moneyLimit"),
     (
         ANSWERS,
         "verdictAnswer Accepted = record { refusal = {NOT_REFUSED};",
@@ -107,6 +116,10 @@ const PLACES: &[(&str, &str)] = &[
     (CALLS, "(heading.Refused {REFUSED_NO_STATEMENT} 0)"),
     (CALLS, "(line.Refused {REFUSED_PAST_END} 0) (line.Line"),
     (BALANCE, "balanced.Refused {REFUSED_PAST_END} 0"),
+    (
+        DISPATCH,
+        "atRecord {REFUSED_DISPATCH_ROW} 0 {DISPATCH_ROW_SIZE} (firstBad",
+    ),
     (
         LINES,
         "cond (raises (r .service)) {PART_CONTINGENCY_ASOE} {PART_CONTINGENCY_ACE}",

@@ -27,9 +27,11 @@ const ROWS: &str = "crates/records/specs/Rows.antt";
 const READING: &str = "crates/parsing/specs/Parsing.antt";
 const BOOK: &str = "crates/book/specs/Header.antt";
 const UNITS: &str = "crates/ground/specs/Units.antt";
+const DISPATCH: &str = "crates/dispatch/specs/Dispatch.antt";
 
 /// The files that have the ranges.
-const RULES: [&str; 6] = [
+const RULES: [&str; 7] = [
+    DISPATCH,
     BOOK,
     READING,
     UNITS,
@@ -38,7 +40,7 @@ const RULES: [&str; 6] = [
     "crates/rules/specs/Rules.antt",
 ];
 
-const RECORDS: [Record; 8] = [
+const RECORDS: [Record; 9] = [
     Record::whole("Book header", BOOK, "b"),
     Record::repeated("Region entry", "i * 12", "EntryFields"),
     Record::repeated("Constraint", "i * 40", "ConstraintFields"),
@@ -51,6 +53,13 @@ const RECORDS: [Record; 8] = [
         file: READING,
         list: "s",
         front: "lineFrom i",
+        size_of: None,
+    },
+    Record {
+        title: "Dispatch row",
+        file: DISPATCH,
+        list: "s",
+        front: "i * 16",
         size_of: None,
     },
 ];
@@ -266,7 +275,7 @@ fn limits(repository: &Repository) -> Option<Vec<(&'static str, usize)>> {
     let header = number_after(repository, READING, "lineFrom i = ")?;
     let amount = number_after(repository, UNITS, "moneyLimit = ")?;
     let rows = constraints * 40 + units * 20 + energies * 24 + contracts * 36;
-    Some(vec![
+    let mut limits = vec![
         ("smallest book, bytes", shortest),
         ("constraints", constraints),
         ("unit rows", units),
@@ -280,6 +289,24 @@ fn limits(repository: &Repository) -> Option<Vec<(&'static str, usize)>> {
         ("most lines of a statement", lines),
         ("longest statement, bytes", header + header * lines),
         ("cost, payment, FPP pool or a line's amount in size", amount),
+    ];
+    limits.extend(dispatch_limits(repository)?);
+    Some(limits)
+}
+
+fn dispatch_limits(repository: &Repository) -> Option<[(&'static str, usize); 4]> {
+    let limit = |file, words| number_after(repository, file, words);
+    Some([
+        ("dispatch row, bytes", limit(DISPATCH, "atRecord 16 0 ")?),
+        ("price of a dispatch row", limit(UNITS, "priceLimit = ")?),
+        (
+            "enablement of a dispatch row",
+            limit(DISPATCH, "enablementLimit = ")?,
+        ),
+        (
+            "price times enablement of a dispatch row",
+            limit(DISPATCH, "productLimit = ")?,
+        ),
     ])
 }
 
@@ -481,7 +508,7 @@ pub fn other_refusals(repository: &Repository) -> Vec<String> {
             ));
         }
     }
-    for number in 1..=15 {
+    for number in 1..=16 {
         let number = number.to_string();
         let is_there = theirs.iter().any(|refusal| refusal.number == number);
         if !is_there || !ours.contains_key(number.as_str()) {
@@ -490,7 +517,7 @@ pub fn other_refusals(repository: &Repository) -> Vec<String> {
             ));
         }
     }
-    if ours.len() != 15 {
+    if ours.len() != 16 {
         complaints.push(format!("{PAGE} has {} refusals", ours.len()));
     }
     complaints

@@ -754,7 +754,9 @@ fn a_refusal_in_other_words_is_noticed() {
     for (old, new, about) in [
         ("| 1 \\| book", "| 1 \\| a book", "Short"),
         ("the rules above", "the rules", "Field"),
-        ("| 15 \\| ", "| 16 \\| ", "PastEnd"),
+        ("| 15 \\| ", "| 17 \\| ", "PastEnd"),
+        ("row that is cut short", "row cut short", "DispatchRow"),
+        ("Refusals: 16,", "Refusals: 17,", "DispatchRow"),
     ] {
         watch.notices(about, |changed| replace(changed, rules::PAGE, old, new));
     }
@@ -788,13 +790,18 @@ fn a_sentence_of_the_rules_that_is_lost_is_noticed() {
     let watch = Watch::over(&repository, rules::lost_words);
     assert!(rules::rule_rows(&repository).len() >= 200);
     let page = repository.text(rules::PAGE);
-    let (_, rest) = page.split_once("\n## 01\n").expect("it begins so");
-    let (part, _) = rest.split_once("\n## The guide\n").expect("it ends so");
-    let rows = part.lines().filter(|line| line.starts_with("| "));
-    for row in rows.filter(|line| !line.starts_with("| 01 |")) {
-        watch.notices("the sentences of 01", |changed| {
-            rewrite(changed, rules::PAGE, |text| text.replacen(row, "", 1));
-        });
+    for (document, next) in [("01", "02"), ("02", "The guide")] {
+        let begin = format!("\n## {document}\n");
+        let (_, rest) = page.split_once(&begin).expect("it begins so");
+        let end = format!("\n## {next}\n");
+        let (part, _) = rest.split_once(&end).expect("it ends so");
+        let rows = part.lines().filter(|line| line.starts_with("| "));
+        let head = format!("| {document} |");
+        for row in rows.filter(|line| !line.starts_with(&head)) {
+            watch.notices(&format!("the sentences of {document}"), |changed| {
+                rewrite(changed, rules::PAGE, |text| text.replacen(row, "", 1));
+            });
+        }
     }
 }
 
@@ -929,7 +936,7 @@ fn a_limit_that_is_off_is_noticed() {
     let watch = Watch::over(&repository, layout::other_limits);
     let rows = page::rows(repository.text(layout::PAGE)).into_iter();
     let limits: Vec<page::Row> = rows.filter(|row| row.under == "Limits").collect();
-    assert_eq!(limits.len(), 10);
+    assert_eq!(limits.len(), 14);
     for row in limits {
         watch.notices(row.first(), |changed| {
             rewrite(changed, layout::PAGE, |page| {
@@ -988,7 +995,7 @@ fn a_number_that_stands_for_something_else_is_noticed() {
 fn a_refusal_of_other_words_is_noticed() {
     let repository = Repository::read();
     let watch = Watch::over(&repository, layout::other_refusals);
-    for number in 1..=15 {
+    for number in 1..=16 {
         let about = format!("refusal {number}");
         watch.notices(&about, |changed| {
             let row = format!("\n| {number} | ");

@@ -11,8 +11,9 @@ use crate::theorems::defines;
 
 pub const PAGE: &str = "docs/RULES.md";
 
-/// The column that has the rules' own words, and the one that has the guide's.
+/// The columns that have the rules' own words, the change requests' and the guide's.
 const RULES: &str = "01";
+const REQUESTS: &str = "02";
 const GUIDE: &str = "The guide";
 
 /// The guide's lines, each of whose definitions some row names.
@@ -24,9 +25,13 @@ const NO_RULE: &str = "no rule: ";
 /// What a row about all public functions says in the place of their names.
 const ALL_FUNCTIONS: &str = "every public function";
 
-/// The rules' own words, put end to end without white space: how many letters and signs
-/// they are, and their fingerprint. Both are changed by hand, where the rules change.
-const WORDS: (usize, u64) = (9_626, 10_010_506_665_584_404_658);
+/// The own words of the rules and of the requests that have landed, put end to end
+/// without white space: how many letters and signs they are, and their fingerprint. Both
+/// are changed by hand, where the rules change or a request lands.
+const WORDS: [(&str, usize, u64); 2] = [
+    (RULES, 9_626, 10_010_506_665_584_404_658),
+    (REQUESTS, 862, 16_462_503_571_502_602_647),
+];
 
 /// Rows with a cell empty or with something in it that is not there.
 pub fn unfounded(repository: &Repository) -> Vec<String> {
@@ -40,10 +45,11 @@ pub fn unfounded(repository: &Repository) -> Vec<String> {
     complaints.collect()
 }
 
-/// The rows that have a sentence of the rules or a formula of the guide.
+/// The rows that have a sentence of the rules or of a request, or a formula of the guide.
 pub fn rule_rows(repository: &Repository) -> Vec<Row> {
     let rows = rows(repository.text(PAGE)).into_iter();
-    let is_rule = |row: &Row| row.cell(RULES).or(row.cell(GUIDE)).is_some();
+    let columns = [RULES, REQUESTS, GUIDE];
+    let is_rule = |row: &Row| columns.iter().any(|column| row.cell(column).is_some());
     rows.filter(is_rule).collect()
 }
 
@@ -191,19 +197,23 @@ pub fn of_no_rule(repository: &Repository) -> Vec<String> {
         .collect()
 }
 
-/// Whether the sentences of the rules are no longer all there, as they were.
+/// The documents whose sentences are no longer all there, as they were.
 pub fn lost_words(repository: &Repository) -> Vec<String> {
     let rows = rule_rows(repository);
-    let cells = rows.iter().filter_map(|row| row.cell(RULES));
-    let words: String = cells.flat_map(str::split_whitespace).collect();
-    let found = (words.chars().count(), fingerprint(&words));
-    let is_same = found == WORDS;
-    let said = format!("{PAGE} does not have the sentences of 01 as they were: {found:?}");
-    (!is_same).then_some(said).into_iter().collect()
+    let lost = WORDS.into_iter().filter_map(|(column, letters, print)| {
+        let cells = rows.iter().filter_map(|row| row.cell(column));
+        let words: String = cells.flat_map(str::split_whitespace).collect();
+        let found = (words.chars().count(), fingerprint(&words));
+        let said =
+            format!("{PAGE} does not have the sentences of {column} as they were: {found:?}");
+        (found != (letters, print)).then_some(said)
+    });
+    lost.collect()
 }
 
-/// Refusals for which the package for users has other words than the rules' table. What
-/// are "the rules above" there are the record's own.
+/// Refusals for which the package for users has other words than the rules' table, or
+/// than the request that brought them. What are "the rules above" there are the record's
+/// own.
 pub fn said_otherwise(repository: &Repository) -> Vec<String> {
     let rows = rule_rows(repository);
     let words_of = |reason: &Reason| {
@@ -212,12 +222,23 @@ pub fn said_otherwise(repository: &Repository) -> Vec<String> {
         let words = said.and_then(|said| said.split(" | ").next());
         words.map(|words| words.replace("the rules above", "its rules"))
     };
-    let other = Reason::ALL
-        .iter()
-        .filter(|reason| words_of(reason).as_deref() != Some(reason.words()));
+    let is_said = |reason: &&Reason| match words_of(reason) {
+        Some(words) => words == reason.words(),
+        None => rows.iter().any(|row| is_requested(row, **reason)),
+    };
+    let other = Reason::ALL.iter().filter(|reason| !is_said(reason));
     other
         .map(|reason| format!("{reason:?}: {PAGE} does not say \"{reason}\""))
         .collect()
+}
+
+/// Whether a request's sentence brings the refusal, in its words: what it calls a row is
+/// called a dispatch row outside of it.
+fn is_requested(row: &Row, reason: Reason) -> bool {
+    let brought = format!("Refusals: {},", reason.number());
+    let words = reason.words().replace("a dispatch row", "row");
+    let cell = row.cell(REQUESTS);
+    cell.is_some_and(|cell| cell.starts_with(&brought) && cell.contains(&words))
 }
 
 /// FNV-1a, of 64 bits.

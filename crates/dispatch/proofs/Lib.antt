@@ -1,0 +1,5 @@
+pub mod Rows
+pub mod Turns
+pub mod OrdinaryRows
+pub mod Last
+pub mod Ends
