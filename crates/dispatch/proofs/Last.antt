@@ -3,10 +3,8 @@ use Prim.Native.Nat.{ℕ, zero, suc, _+_, _-_, _*_, _/_, _≤_, _<_}
 use mathlib.Core.Path.{_≡_, refl, sym, ap, _∙_}
 use mathlib.Core.List.{List}
 use native.Mathlib.Omega.{arith}
-use native.Mathlib.Numerals.{add-one}
 use mathlib.Core.Logic.{⊎-elim}
 use native.Mathlib.Nat.{le-refl, eq-or-lt-of-le}
-use Rattle.ground.specs.Units.{moneyLimit}
 use Rattle.sections.specs.First.{firstBad}
 use Rattle.sections.specs.declared.Checked.the-variants.{Good}
 use Rattle.dispatch.specs.Dispatch.{dispatchRow, amountOf, sumWith, rowOk}
@@ -94,9 +92,3 @@ module _ (s : List ℕ) where
             (λ (h : j - 1 ≡ i - 1). absurd (d (here ∙ ap (λ (n : ℕ). idService (dispatchRow s n)) h ∙ sym last)))
             (λ (h : j - 1 < i - 1). h)
             (eq-or-lt-of-le low)
-
-  -- there is room for the row
-  pub last-limit : (i : ℕ) → firstBad (rowOk s) i ≡ Good → lastSum (dispatchRow s) i ≤ moneyLimit
-  unfolding lastSum
-  last-limit zero g = omega arith
-  last-limit (suc k) g = rw add-one at (each s (suc k) g k (le-refl (suc k)) .sum)

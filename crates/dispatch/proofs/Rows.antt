@@ -4,13 +4,12 @@ use mathlib.Core.Path.{_≡_, ap, _∙_}
 use mathlib.Core.Bool.{Bool, true, _&&_, _||_}
 use mathlib.Core.List.{List, [], _∷_}
 use native.Mathlib.Omega.{arith}
-use borrow.Author.Tests.{leb-true, eqb-true, eqb-false, ltb-true}
+use borrow.Author.Tests.{leb-true, ltb-true}
 use lib.Dec.{eqb, leb, ltb}
 use Rattle.numbers.proofs.Products.{wide-product}
 use Rattle.ground.specs.Bytes.{byteAt, u16At, u32At}
 use Rattle.ground.specs.Units.{priceLimit}
 use Rattle.ground.proofs.Every.{every}
-use Rattle.sections.specs.Order.{pairBelow}
 use Rattle.sections.proofs.Order.{key-pair}
 use Rattle.dispatch.specs.Dispatch.{dispatchRow, rowInRange, enablementLimit, rowBelow, amountOf}
 use Rattle.dispatch.specs.Inner.Keys.{idServiceRegion}

@@ -6,8 +6,8 @@ use mathlib.Core.Bool.{Bool, true, false, cond, _&&_, not}
 use mathlib.Core.List.{List, [], _∷_}
 use native.Mathlib.Omega.{arith}
 use native.Mathlib.Numerals.{add-one}
-use native.Mathlib.Nat.{add-zero, le-of-lt, le-refl}
-use borrow.Author.Count.{below-none, below-more}
+use native.Mathlib.Nat.{add-zero, le-refl}
+use borrow.Author.Count.{below-more}
 use borrow.Author.Tests.{eqb-true, eqb-false, leb-true, le-leb, lt-ltb, not-false}
 use lib.Dec.{eqb, leb, ltb}
 use lib.ListN.{length}
@@ -15,10 +15,10 @@ use Rattle.ground.specs.Units.{moneyLimit}
 use Rattle.ground.proofs.Every.{every}
 use Rattle.sections.specs.First.{firstBad}
 use Rattle.sections.specs.Order.{risesBy}
-use Rattle.sections.specs.Total.{total, keyed}
+use Rattle.sections.specs.Total.{keyed}
 use Rattle.sections.specs.Inner.Order.{Keeps}
 use Rattle.sections.specs.declared.Checked.the-variants.{Good}
-use Rattle.sections.proofs.Cases.{cond-same, no-yes}
+use Rattle.sections.proofs.Cases.{cond-same}
 use Rattle.sections.proofs.First.{first-none, first-more, first-each}
 use Rattle.sections.proofs.Order.{rises-first, rises-later, rises-step, keeps}
 use Rattle.sections.proofs.Total.{total-none, total-more, total-zero, keyed-hit, keyed-miss, keyed-none}
@@ -71,7 +71,7 @@ module _ (row : ℕ → DispatchRow) where
         by true p false q = sum-miss id service i (other-service id service i (eqb-false (row i .service) service q)) d
         by false p q _ = sum-miss id service i (other-id id service i (eqb-false (row i .id) id p)) d
 
-    -- it is then what the row's own id and service come to, and no more than x if these are not
+    -- there is room for it where x, what the row's own id and service come to with it, is within the limit
     pub asked-room : (x : ℕ) → x ≡ sumWith row (row i .id) (row i .service) (i + 1) → x ≤ moneyLimit → named ≡ true → a + amountOf r ≤ moneyLimit
     asked-room x q l t =
         let both = every (eqb (row i .id) id ∷ eqb (row i .service) service ∷ []) (rw e at (sym h ∙ t)) in
@@ -183,10 +183,14 @@ module _ (s : List ℕ) where
   pub rising : (i : ℕ) → firstBad (rowOk s) i ≡ Good → Rising (dispatchRow s) i
   rising i g = record { range = λ j l. each i g j l .range; rises = λ j l. each i g j l .rises }
 
-  pub run-limit : (i : ℕ) {before run : ℕ} → Passed i before run → run ≤ moneyLimit
+  -- no sum so far passes the limit
+  pub last-limit : (i : ℕ) → firstBad (rowOk s) i ≡ Good → lastSum (dispatchRow s) i ≤ moneyLimit
   unfolding lastSum
-  run-limit zero p = rw (p .sum) (omega arith)
-  run-limit (suc k) p = rw (p .sum) (rw add-one at (each (suc k) (p .good) k (le-refl (suc k)) .sum))
+  last-limit zero g = omega arith
+  last-limit (suc k) g = rw add-one at (each (suc k) g k (le-refl (suc k)) .sum)
+
+  pub run-limit : (i : ℕ) {before run : ℕ} → Passed i before run → run ≤ moneyLimit
+  run-limit i p = rw (p .sum) (last-limit i (p .good))
 
   -- the next row, where it is in range, is above the key exactly where it rises
   pub key-told : (i : ℕ) {before run : ℕ} → Passed i before run → Ranged (dispatchRow s i) → ltb before (idServiceRegion (dispatchRow s i)) ≡ risesBy rowBelow (dispatchRow s) i

@@ -2,7 +2,8 @@
 -- what is left. Assumes nothing.
 use native.Mathlib.Omega.{arith}
 use borrow.Author.Needs.{needs}
-use Rattle.dispatch.proofs.Last.{Back, back-start, back-more, back-stop, back-all, last-limit}
+use Rattle.dispatch.proofs.Turns.{last-limit}
+use Rattle.dispatch.proofs.Last.{Back, back-start, back-more, back-stop, back-all}
 use Rattle.dispatch.proofs.last_sum.Statement.{statement}
 use Rattle.dispatch.proofs.last_sum.Tie as tie
 

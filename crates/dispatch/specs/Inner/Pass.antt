@@ -26,7 +26,7 @@ lastSum row (suc k) = sumWith row (row k .id) (row k .service) (suc k)
 abbrev pub ordinaryProduct : ℕ
 ordinaryProduct = 120_000_000_000
 
--- of n rows so many at the front have no fault, and the sum asked for is over these
+-- of n rows so many at the front have no fault, and the sum asked for is over these; how many is a matter of speed alone
 pub record FrontIs (s : List ℕ) (n id service rows asked : ℕ) : Type 0 where
   pub high : rows ≤ n
   pub good : firstBad (rowOk s) rows ≡ Good

@@ -1,7 +1,7 @@
-//! The reference: the rules of the scope document (01), written from it alone
-//! and in its order; likewise those of the request for costs (02, Req 01). Where
-//! they have a sentence for a rule, that sentence stands over it. It is written
-//! to be compared with them by eye, not for speed.
+//! The reference: the rules of the scope document (01) and of the requests that have
+//! landed (02), written from these alone and in their order. Where they have a sentence
+//! for a rule, that sentence stands over it. It is written to be compared with them by
+//! eye, not for speed.
 
 mod amounts;
 mod balance;
