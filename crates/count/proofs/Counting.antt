@@ -1,21 +1,22 @@
 -- Lines counted without being made: a unit row's, a run's, a constraint's, a contract's, and all. Assumes nothing.
-use Prim.Native.Nat.{ℕ, _+_, _≤_, _<_}
-use mathlib.Core.Path.{_≡_, sym, ap, ap₂, _∙_}
-use mathlib.Core.Bool.{cond}
+use Prim.Native.Nat.{ℕ, _+_, _*_, _≤_, _<_}
+use mathlib.Core.Path.{_≡_, refl, sym, ap, ap₂, _∙_}
+use mathlib.Core.Bool.{Bool, true, false, cond}
 use mathlib.Core.List.{List, []}
 use mathlib.Core.Logic.{⊎-elim}
-use borrow.Author.Tests.{eq-eqb, ne-eqb}
-use lib.Dec.{eqb}
+use borrow.Author.Tests.{eq-eqb, ne-eqb, eqb-true, eqb-false, leb-true}
+use lib.Dec.{eqb, leb}
 use lib.ListN.{length, length-append}
 use native.Mathlib.Omega.{arith}
 use native.Mathlib.Nat.{eq-or-lt-of-le}
 use Rattle.ground.specs.Bytes.{partFrom}
+use Rattle.sections.specs.Search.{all}
 use Rattle.sections.specs.Total.{total, keyed}
 use Rattle.sections.specs.Inner.Walk.{Under, Sought}
 use Rattle.sections.proofs.Cases.{is-zero, cond-same}
 use Rattle.sections.proofs.Walk.{under-later}
-use Rattle.sections.proofs.Total.{total-none, total-more, total-all, total-zero, total-same, total-plus, total-swap, total-only, total-five, keyed-hit, keyed-miss}
-use Rattle.sections.proofs.Search.{lt-or-ge}
+use Rattle.sections.proofs.Total.{total-none, total-more, total-all, total-bound, total-zero, total-same, total-plus, total-swap, total-only, total-five, keyed-hit, keyed-miss}
+use Rattle.sections.proofs.Search.{lt-or-ge, all-each}
 use Rattle.rules.specs.Rules.{factorOf}
 use Rattle.records.specs.Rows.{entryRow, constraintRow, unitRow, contractRow}
 use Rattle.records.specs.declared.rows.Entry.{Entry}
@@ -35,7 +36,7 @@ use Rattle.groups.specs.Inner.Each.{eachOf, regionEach}
 use Rattle.lines.specs.Inner.Walks.{ownLines, unitLinesAt, conLines, conLinesAt, contractLinesAt, bookLines}
 use Rattle.groups.proofs.Numbering.{choice-length, unit-length, rest-length, region-length, single}
 use Rattle.walk.proofs.Order.{rises-once}
-use Rattle.count.specs.Inner.Counts.{countIn, rowCount, UnitsCounted, BareOf, Countable, MetAt, ConstraintsCounted, ContractCounted, ContractsCounted, BookCounted}
+use Rattle.count.specs.Inner.Counts.{countIn, rowCount, ownRow, UnitsCounted, BareOf, Countable, MetAt, ConstraintsCounted, ContractCounted, ContractsCounted, BookCounted}
 use Rattle.count.specs.declared.Met.{Met}
 
 -- ---- a unit row
@@ -59,6 +60,19 @@ module _ (unit : ℕ → UnitRow) (account : ℕ) (r : Constraint) (u : ℕ) whe
       choice-length (eqb (keyOf unit u) (r .id)) _ []
       ∙ ap (λ (x : ℕ). cond (eqb (keyOf unit u) (r .id)) x 0)
       (choice-length (eqb (unit u .account) account) _ [] ∙ ap (λ (x : ℕ). cond (eqb (unit u .account) account) x 0) (unit-length r (poolsOf r) (unit u)))
+
+pub own-told : (unit : ℕ → UnitRow) (account u : ℕ) {q : UnitRow} {x : ℕ} → q ≡ unit u → x ≡ cond (eqb (q .account) account) 1 0 → x ≡ ownRow unit account u
+unfolding ownRow
+own-told unit account u e f = rw e at f
+
+-- no more rows are the account's than there are
+own-few : (unit : ℕ → UnitRow) (account m : ℕ) → total (ownRow unit account) m ≤ m
+unfolding ownRow
+own-few unit account m = omega (arith, total-bound (ownRow unit account) 1 m (λ u l. by (eqb (unit u .account) account)))
+  where
+    by : (t : Bool) → cond t 1 0 ≤ 1
+    by true = omega arith
+    by false = omega arith
 
 -- ---- a constraint
 
@@ -104,13 +118,47 @@ module _ (con : ℕ → Constraint) (n : ℕ) (unit : ℕ → UnitRow) (m accoun
         let b : c < n = omega arith in
         (b, ⊎-elim (λ (q : c ≡ p). rw q e) (λ (q : c < p). omega (arith, h .rise .rise c p q w, s .over b, e)) (eq-or-lt-of-le a))
 
-    units-own : (u c : ℕ) {x y : ℕ} {q : UnitRow} {r : Constraint} → u < m → UnitsCounted con n unit account u x → q ≡ unit u → q .account ≡ account → Sought (idOf con) n (keyOf unit u) c → r ≡ con c → y ≡ eachOf r → y ≤ 3 → UnitsCounted con n unit account (u + 1) (x + y)
+    -- a row of the account's has the lines of the constraint that it names
+    row-counted : (u c : ℕ) → c < n → con c .id ≡ keyOf unit u → unit u .account ≡ account → rowCount con n unit account u ≡ eachOf (con c)
     unfolding rowCount
+    row-counted u c l e a =
+        let apart : (j : ℕ) → j < n → (j ≡ c → ⊥) → countIn unit account (con j) u ≡ 0 = λ j b d. miss unit account (con j) u (λ (q : keyOf unit u ≡ con j .id). d (rises-once (idOf con) n (h .rise) j c b l (sym q ∙ sym e))) in
+        total-only (λ j. countIn unit account (con j) u) c n l apart ∙ hit unit account (con c) u (sym e) a
+
+    units-own : (u c : ℕ) {x y : ℕ} {q : UnitRow} {r : Constraint} → u < m → UnitsCounted con n unit account u x → q ≡ unit u → q .account ≡ account → Sought (idOf con) n (keyOf unit u) c → r ≡ con c → y ≡ eachOf r → y ≤ 3 → UnitsCounted con n unit account (u + 1) (x + y)
     units-own u c {x} {y} l k e a s f g z =
         let at-c = named-at u c l s in
-        let apart : (j : ℕ) → j < n → (j ≡ c → ⊥) → countIn unit account (con j) u ≡ 0 = λ j b d. miss unit account (con j) u (λ (q : keyOf unit u ≡ con j .id). d (rises-once (idOf con) n (h .rise) j c b (at-c .0) (sym q ∙ sym (at-c .1)))) in
-        let row : y ≡ rowCount con n unit account u = g ∙ ap eachOf f ∙ sym (hit unit account (con c) u (sym (at-c .1)) (rw e at a)) ∙ sym (total-only (λ j. countIn unit account (con j) u) c n (at-c .0) apart) in
+        let row : y ≡ rowCount con n unit account u = g ∙ ap eachOf f ∙ sym (row-counted u c (at-c .0) (at-c .1) (rw e at a)) in
         record { lines = total-more (rowCount con n unit account) u (k .lines) row; few = omega (arith, k .few) }
+
+    -- where no constraint is of mode 2, each of them has three
+    module _ (none : all (λ j. leb (con j .mode) 1) n ≡ true) where
+      factored : (j : ℕ) → j < n → (con j .mode ≡ 0 → ⊥) → eachOf (con j) ≡ 3
+      unfolding eachOf
+      factored j l d =
+          let low = leb-true (con j .mode) 1 (all-each (λ j. leb (con j .mode) 1) n none j l) in
+          ⊎-elim
+          (λ (e : con j .mode ≡ 1). rw (eq-eqb _ _ e))
+          (λ (b : con j .mode < 1). absurd (d (omega arith)))
+          (eq-or-lt-of-le low)
+
+      three-each : (u : ℕ) → u < m → rowCount con n unit account u ≡ ownRow unit account u + ownRow unit account u + ownRow unit account u
+      unfolding rowCount ownRow
+      three-each u l = by (eqb (unit u .account) account) refl
+        where
+          by : (t : Bool) → eqb (unit u .account) account ≡ t → rowCount con n unit account u ≡ cond t 1 0 + cond t 1 0 + cond t 1 0
+          by true t =
+              let p = h .names .place u l in
+              let w = h .names .within u l in
+              let e = h .names .same u l in
+              row-counted u p w e (eqb-true _ _ t) ∙ factored p w (λ z. h .bare p w z u l (sym e))
+          by false t = sym (total-zero (λ j. countIn unit account (con j) u) n (λ j b. other unit account (con j) u (eqb-false _ _ t)))
+
+      pub threes-counted : {x : ℕ} → x ≡ total (ownRow unit account) m → UnitsCounted con n unit account m (x * 3)
+      threes-counted {x} e =
+          let f = ownRow unit account in
+          let sum = total-same (rowCount con n unit account) (λ u. f u + f u + f u) m three-each ∙ total-plus (λ u. f u + f u) f m ∙ ap (λ (s : ℕ). s + total f m) (total-plus f f m) in
+          record { lines = omega (arith, sum, e); few = omega (arith, e, own-few unit account m) }
 
     pub met-skip : (u : ℕ) {x : Met} {q : UnitRow} → MetAt con n unit m account u x → q ≡ unit u → (q .account ≡ account → ⊥) → MetAt con n unit m account (u + 1) x
     met-skip u k e d = record { high = k .high; under = λ v a b. k .under v (omega arith) b; counted = units-skip u (k .counted) e d }

@@ -1,15 +1,19 @@
 // How many lines an account has, without making one: its unit rows are told by their accounts, and the mode says how many lines each has.
 ghost use mathlib.Core.Path.{_≡_};
+ghost use mathlib.Core.Bool.{cond};
 ghost use Prim.Native.Nat.{_+_, _*_, _≤_, _<_};
+ghost use lib.Dec.{leb};
 ghost use lib.ListN.{length};
+ghost use Rattle.sections.specs.Search.{all};
 ghost use Rattle.sections.specs.Total.{total};
 ghost use Rattle.records.specs.Rows.{constraintRow, unitRow, contractRow};
 ghost use Rattle.book.specs.Book.{bookIn};
 ghost use Rattle.book.specs.Inner.Facts.{Laid};
 ghost use Rattle.groups.specs.Inner.Each.{eachOf};
-ghost use Rattle.count.specs.Inner.Counts.{UnitsCounted, Countable, MetAt, ConstraintsCounted, ContractCounted, ContractsCounted, BookCounted};
+ghost use Rattle.count.specs.Inner.Counts.{ownRow, UnitsCounted, Countable, MetAt, ConstraintsCounted, ContractCounted, ContractsCounted, BookCounted};
 use book::header::Header;
 use factors::naming;
+use market::Mode;
 use records::rows;
 use records::rows::Constraint;
 use records::rows::Contract;
@@ -37,8 +41,8 @@ fn with_row(cons: &[u8], n: usize, units: &[u8], m: usize, u: usize, met: Met, a
     Met { cursor, lines }
 }
 
-// The lines of the account's unit rows.
-fn unit_lines(cons: &[u8], n: usize, units: &[u8], m: usize, account: u32) -> usize
+// The lines of the account's unit rows, row by row.
+fn row_by_row(cons: &[u8], n: usize, units: &[u8], m: usize, account: u32) -> usize
     requires { ⌜ (n * 40 ≤ length (now cons)) × (m * 20 ≤ length (now units)) ⌝ }
     requires { ⌜ Countable (constraintRow (now cons)) n (unitRow (now units)) m ⌝ }
     ensures { λ x. ⌜ UnitsCounted (constraintRow (now (cons .entry))) n (unitRow (now (units .entry))) account m x ⌝ }
@@ -53,6 +57,54 @@ fn unit_lines(cons: &[u8], n: usize, units: &[u8], m: usize, account: u32) -> us
         u += 1;
     }
     met.lines
+}
+
+fn one_if(test: bool) -> usize
+    ensures { λ x. ⌜ (x ≡ cond test 1 0) × (x ≤ 1) ⌝ }
+{
+    if test { 1 } else { 0 }
+}
+
+// How many unit rows are the account's. None is told apart by a branch, so that the longest statement's are counted in no time.
+fn own_rows(units: &[u8], m: usize, account: u32) -> usize
+    requires { ⌜ m * 20 ≤ length (now units) ⌝ }
+    ensures { λ x. ⌜ (x ≡ total (ownRow (unitRow (now (units .entry))) account) m) × (x ≤ m) ⌝ }
+{
+    let mut own = 0;
+    let mut i = 0;
+    while i < m {
+        let q = rows::unit_row(units, i);
+        own += one_if(q.account == account);
+        i += 1;
+    }
+    own
+}
+
+// Whether no constraint is of mode 2.
+fn none_default(cons: &[u8], n: usize) -> bool
+    requires { ⌜ n * 40 ≤ length (now cons) ⌝ }
+    ensures { λ b. ⌜ b ≡ all (λ j. leb (constraintRow (now (cons .entry)) j .mode) 1) n ⌝ }
+{
+    let mut none = true;
+    let mut i = 0;
+    while i < n {
+        let r = rows::constraint_row(cons, i);
+        none = none & (r.mode <= Mode::FACTORED);
+        i += 1;
+    }
+    none
+}
+
+// The lines of the account's unit rows. Where no constraint is of mode 2 each row has three, whichever it names.
+fn unit_lines(cons: &[u8], n: usize, units: &[u8], m: usize, account: u32) -> usize
+    requires { ⌜ (n * 40 ≤ length (now cons)) × (m * 20 ≤ length (now units)) ⌝ }
+    requires { ⌜ Countable (constraintRow (now cons)) n (unitRow (now units)) m ⌝ }
+    ensures { λ x. ⌜ UnitsCounted (constraintRow (now (cons .entry))) n (unitRow (now (units .entry))) account m x ⌝ }
+{
+    if none_default(cons, n) {
+        return own_rows(units, m, account) * 3;
+    }
+    row_by_row(cons, n, units, m, account)
 }
 
 // The lines that the n constraints have besides: a residual's, or the one of mode 0.

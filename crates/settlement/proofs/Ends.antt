@@ -1,10 +1,9 @@
 -- Each way in which the call ends, over a book's own rows. Assumes nothing.
-use Prim.Native.Nat.{ℕ, _+_, _*_, _<_}
+use Prim.Native.Nat.{ℕ, _+_, _*_, _≤_, _<_}
 use mathlib.Core.Path.{_≡_, refl, sym, ap, subst, _∙_}
 use mathlib.Core.Bool.{Bool, true, false, not, _&&_, _||_}
 use mathlib.Core.List.{List}
-use borrow.Author.Tests.{ltb-true, ltb-false}
-use lib.Dec.{eqb, ltb}
+use lib.Dec.{eqb}
 use lib.ListN.{length}
 use native.Mathlib.Omega.{arith}
 use Rattle.ground.specs.Inner.Put.{Wrote}
@@ -54,19 +53,19 @@ module _ (B : Book) (account : ℕ) (own : Totals) (p : Promise B) (o : Owned B 
   pub end-12 : over ≡ true → Lent (settled account (publicOf B) (rowsOfAccount B account)) l (written.Refused 12 0) l
   end-12 t = lent-refused 12 0 _ l (settled-over account (publicOf B) (rowsOfAccount B account) (o .known) (sym over-told ∙ t))
 
-  module _ (t : over ≡ false) {short : Bool} (s : (own : Totals) → short ≡ ltb (length l) (24 + length (bookLines B account own) * 24)) where
-    pub end-13 : short ≡ true → Lent (settled account (publicOf B) (rowsOfAccount B account)) l (written.Refused 13 0) l
+  module _ (t : over ≡ false) {n : ℕ} (s : (own : Totals) → n ≡ 24 + length (bookLines B account own) * 24) where
+    pub end-13 : length l < n → Lent (settled account (publicOf B) (rowsOfAccount B account)) l (written.Refused 13 0) l
     end-13 q =
         lent-short account (publicOf B) (rowsOfAccount B account) (o .known) (sym over-told ∙ t) l (length (bookLines B account own)) count-is
-        (ltb-true _ _ (sym (s own) ∙ q))
+        (omega (arith, s own))
 
-    pub fits-in : short ≡ false → Fits (bookLines B account own) (length l)
-    fits-in q = record { few = o .few; room = ltb-false _ _ (sym (s own) ∙ q) }
+    pub fits-in : n ≤ length l → Fits (bookLines B account own) (length l)
+    fits-in q = record { few = o .few; room = omega (arith, s own) }
 
-    pub end-written : {b : List ℕ} {n : ℕ} → short ≡ false → Wrote l 0 (wholeOf account B own) b n → Lent (settled account (publicOf B) (rowsOfAccount B account)) l (Length n) b
+    pub end-written : {b : List ℕ} {m : ℕ} → n ≤ length l → Wrote l 0 (wholeOf account B own) b m → Lent (settled account (publicOf B) (rowsOfAccount B account)) l (Length m) b
     unfolding statementOf wholeOf publicOf
-    end-written {b} {n} q w =
-        let end : n ≡ 24 + length (bookLines B account own) * 24 = omega (arith, w .next, statement-length (headingIn account B (length (bookLines B account own))) (bookLines B account own)) in
+    end-written {b} {m} q w =
+        let end : m ≡ 24 + length (bookLines B account own) * 24 = omega (arith, w .next, statement-length (headingIn account B (length (bookLines B account own))) (bookLines B account own)) in
         rw end
         (lent-written account (publicOf B) (rowsOfAccount B account) (o .known) (sym over-told ∙ t) l (length (bookLines B account own)) count-is (fits-in q .room)
         (rw (sym (o .lines)) at (w .bytes)))

@@ -30,8 +30,7 @@ fn test_and_write(book: &[u8], h: Header, own: Totals, account: u32, buffer: &mu
     if limit::passed(book, h) {
         return Written::Refused(12, 0);
     }
-    let room = buffer.len();
-    if whole::is_short(book, h, account, room) {
+    if buffer.len() < whole::length_of(book, h, account) {
         return Written::Refused(13, 0);
     }
     Written::Length(whole::write(buffer, book, h, own, account))

@@ -1,9 +1,6 @@
--- How many lines an account can have, and what that says of a buffer. Assumes nothing.
+-- How many lines an account can have, and how long its statement is. Assumes nothing.
 use Prim.Native.Nat.{ℕ, _+_, _*_, _≤_}
-use mathlib.Core.Path.{_≡_, sym, ap}
-use mathlib.Core.Bool.{false}
-use borrow.Author.Tests.{le-ltb}
-use lib.Dec.{ltb}
+use mathlib.Core.Path.{_≡_, ap}
 use lib.ListN.{length, length-append}
 use native.Mathlib.Omega.{arith}
 use Rattle.totals.specs.Inner.Totals.{entryOf}
@@ -31,9 +28,6 @@ module _ (B : Book) (account : ℕ) (p : Promise B) where
   pub few-of : (own : Totals) → length (bookLines B account own) ≤ 2152
   few-of own = omega (arith, most-of own, p .sound .few .constraints, p .sound .few .units, p .sound .few .contracts)
 
-  -- with room for the most lines there is room
-  pub room-for-all : {most room : ℕ} → most ≡ 3 * B .header .units + 3 * B .header .constraints + 10 * B .header .contracts → 24 + most * 24 ≤ room → (own : Totals) → false ≡ ltb room (24 + length (bookLines B account own) * 24)
-  room-for-all {most} {room} e h own = sym (le-ltb room (24 + length (bookLines B account own) * 24) (omega (arith, most-of own)))
-
-  pub short-counted : (room : ℕ) {x : ℕ} → BookCounted B account x → (own : Totals) → ltb room (24 + x * 24) ≡ ltb room (24 + length (bookLines B account own) * 24)
-  short-counted room c own = ap (λ (n : ℕ). ltb room (24 + n * 24)) (c .lines own)
+  -- counted lines make the length
+  pub length-counted : {x : ℕ} → BookCounted B account x → (own : Totals) → 24 + x * 24 ≡ 24 + length (bookLines B account own) * 24
+  length-counted c own = ap (λ (n : ℕ). 24 + n * 24) (c .lines own)

@@ -1,37 +1,37 @@
--- `count::unit_lines` meets its contract. The invariant, `MetAt`: the lines of the rows so far are counted, and no id before the cursor is as large as a later row's key. The measure is what is left. Assumes nothing.
-use Prim.Native.Nat.{_≤_, _-_}
+-- `count::unit_lines` meets its contract. No constraint is of mode 2, and the account's rows have three lines each, or they are asked one by one.
+-- Assumes nothing.
+use mathlib.Core.Path.{sym, _∙_}
 use native.Mathlib.Omega.{arith}
-use Rattle.records.specs.Rows.{constraintRow, unitRow}
-use Rattle.count.specs.Inner.Counts.{MetAt}
-use Rattle.count.proofs.Counting.{met-start, units-all}
+use Rattle.count.proofs.Counting.{threes-counted}
+use borrow.Author.Needs.{needs}
 use Rattle.count.proofs.unit_lines.Statement.{statement}
 use Rattle.count.proofs.unit_lines.Tie as tie
 
-abbrev Inv-loop : tie.InvT-loop
-Inv-loop cons n units m account met₀ u₀ met u = (u ≤ m) × MetAt (constraintRow cons) n (unitRow units) m account u met
+none-default-requires : tie.Need-none-default-requires
+none-default-requires c κs = search needs
 
-abbrev μ-loop : tie.MeasureT-loop
-μ-loop cons n units m account met₀ u₀ met u = m - u
+own-rows-requires : tie.Need-own-rows-requires
+own-rows-requires c κs = search needs
 
-loop-holds : tie.Need-loop-holds Inv-loop μ-loop
-loop-holds c = (omega arith, met-start _ _ _ _ _)
+mul-result : tie.Need-mul-result
+mul-result c = omega (arith, c .own-rows .ensures .1, c .before .before .before .before .before .pre .1 .walked .few)
 
-with-row-requires : tie.Need-with-row-requires Inv-loop μ-loop
-with-row-requires c κs = ((c .before .before .before .before .pre .0 .0, (c .before .before .before .before .pre .0 .1, c .loop-test .taken)), (c .before .before .before .before .pre .1, c .before .loop .inv .1))
+returns : tie.Need-returns
+returns c = threes-counted _ _ _ _ _ (c .before .before .before .before .before .pre .1) (sym (c .before .before .none-default .ensures) ∙ c .before .if1 .taken) (c .own-rows .ensures .0)
 
-add-u : tie.Need-add-u Inv-loop μ-loop
-add-u c = omega arith
+row-by-row-requires : tie.Need-row-by-row-requires
+row-by-row-requires c κs = search needs
 
-loop-less : tie.Need-loop-less Inv-loop μ-loop
-loop-less c = omega arith
-
-loop-again : tie.Need-loop-again Inv-loop μ-loop
-loop-again c = (omega arith, c .with-row .ensures)
-
-returns : tie.Need-returns Inv-loop μ-loop
-returns c = units-all _ _ _ (c .before .before .before .before .args .m) _ _ _ (c .before .loop .inv .0) (c .loop-test .left) (c .before .loop .inv .1 .counted)
+returns-2 : tie.Need-returns-2
+returns-2 c = search needs
 
 pub unit-lines-spec : {M : Type 1} → statement M
 unit-lines-spec =
     tie.close
-    (tie.spec Inv-loop μ-loop loop-holds with-row-requires add-u loop-less loop-again returns)
+    (tie.spec
+    none-default-requires
+    own-rows-requires
+    mul-result
+    returns
+    row-by-row-requires
+    returns-2)

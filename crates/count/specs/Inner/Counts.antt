@@ -29,6 +29,10 @@ countIn unit account r u = keyed (keyOf unit) (r .id) (λ v. cond (eqb (unit v .
 unfoldable pub rowCount : (ℕ → Constraint) → ℕ → (ℕ → UnitRow) → ℕ → ℕ → ℕ
 rowCount con n unit account u = total (λ j. countIn unit account (con j) u) n
 
+-- 1 of a unit row that is the account's
+unfoldable pub ownRow : (ℕ → UnitRow) → ℕ → ℕ → ℕ
+ownRow unit account u = cond (eqb (unit u .account) account) 1 0
+
 -- the lines of the first m unit rows
 pub record UnitsCounted (con : ℕ → Constraint) (n : ℕ) (unit : ℕ → UnitRow) (account m x : ℕ) : Type 0 where
   pub lines : x ≡ total (rowCount con n unit account) m
