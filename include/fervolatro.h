@@ -1,7 +1,7 @@
 /*
  * Fervolatro: the checks of a book of one five-minute trading interval, the
- * statement of one account, the balance of a pool, statements read back, and
- * the payments and base costs that dispatch rows make.
+ * statement of one account and its length, the balance of a pool, statements
+ * read back, and the payments and base costs that dispatch rows make.
  *
  * A call reads the bytes it is lent and writes at most the buffer it is lent:
  * it keeps nothing from one call to the next, and needs no preparation and no
@@ -34,9 +34,9 @@
 /* The version of the library that this header belongs to. Whole numbers and
  * their text say the same. */
 #define FERVOLATRO_VERSION_MAJOR 0
-#define FERVOLATRO_VERSION_MINOR 2
+#define FERVOLATRO_VERSION_MINOR 3
 #define FERVOLATRO_VERSION_PATCH 0
-#define FERVOLATRO_VERSION "0.2.0"
+#define FERVOLATRO_VERSION "0.3.0"
 
 /* How many bytes each record of a book has, in the order of the book. */
 #define FERVOLATRO_BOOK_HEADER_SIZE 24
@@ -60,7 +60,9 @@
 #define FERVOLATRO_MOST_LINES 2152
 
 /* The bytes of the largest book that is accepted and of the longest statement.
- * A buffer of the latter length is never refused as too short. */
+ * How long the statement at hand is, fervolatro_length answers. The latter is a
+ * bound for a caller that cannot allocate: a buffer of that length is never
+ * refused as too short. */
 #define FERVOLATRO_LARGEST_BOOK 39796
 #define FERVOLATRO_LARGEST_STATEMENT 51672
 
@@ -227,12 +229,15 @@ typedef struct {
 fervolatro_verdict fervolatro_check(const uint8_t *book, size_t book_len);
 
 /*
- * The answer of a call that writes a statement, or the lines of one.
+ * The answer of fervolatro_length, and of a call that writes a statement or the
+ * lines of one.
  *
- * refusal  0 if they were written, else the number of the refusal, 1 to 14.
- * place    where in the book the fault lies, in bytes from its start; 0 if
- *          they were written, and for refusals 11 to 14.
- * length   how many bytes were written; 0 if the call is refused.
+ * refusal  0 if the call is not refused, else the number of the refusal, 1 to
+ *          14.
+ * place    where in the book the fault lies, in bytes from its start; 0 if the
+ *          call is not refused, and for refusals 11 to 14.
+ * length   how many bytes were written, or how many fervolatro_statement would
+ *          write; 0 if the call is refused.
  */
 typedef struct {
     uint64_t refusal;
@@ -241,8 +246,8 @@ typedef struct {
 } fervolatro_written;
 
 /*
- * Writes the statement of one account: a header of 24 bytes and lines of 24
- * bytes each, 51,672 bytes at most.
+ * Answers how many bytes the statement of one account has: 24 of its header and
+ * 24 of each line, 51,672 at most.
  *
  *   No  Given exactly when                              Place
  *    0  none of the rows below applies                  0
@@ -251,9 +256,35 @@ typedef struct {
  *       account
  *   12  a line would pass 50,000,000,000 ten-           0
  *       thousandths of a dollar either way
+ *
+ * The lowest number that applies is given. There is no 13, since no buffer is
+ * lent.
+ *
+ * Who wants a statement asks for its length first and lends just that much. Of
+ * the same book and account, fervolatro_statement never refuses a buffer of
+ * this length by 13, and always one of a byte less:
+ *
+ *   fervolatro_written asked = fervolatro_length(book, book_len, account);
+ *   uint8_t *buffer = asked.refusal == 0 ? malloc(asked.length) : NULL;
+ *
+ * book      the first of book_len readable bytes.
+ * book_len  how many bytes are lent.
+ * account   any number; 0 is no account, and refused by 11.
+ */
+fervolatro_written fervolatro_length(const uint8_t *book, size_t book_len,
+                                     uint32_t account);
+
+/*
+ * Writes the statement of one account: a header of 24 bytes and lines of 24
+ * bytes each, in all as many as fervolatro_length answers.
+ *
+ *   No  Given exactly when                              Place
+ *    0  none of the rows below applies                  0
+ *    1  to 12, as fervolatro_length gives them
  *   13  buffer_len below the statement's length         0
  *
- * The lowest number that applies is given.
+ * The lowest number that applies is given. The call makes all these checks
+ * itself, whether the length was asked for before or not.
  *
  * Where the answer is 0, the first length bytes of the buffer are the
  * statement and every later byte is what it was. A refusal leaves every byte

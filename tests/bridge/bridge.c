@@ -4,6 +4,8 @@
  *
  * A request is a letter and the arguments, a slice being a u32 length and its bytes:
  *   'c', the book: the answer is fervolatro_verdict, field by field;
+ *   'n', the book, a u32 account: of fervolatro_length; the answer is fervolatro_written, field by
+ *        field;
  *   's', the book, a u32 account, the buffer: the answer is fervolatro_written, field by field, and
  *        then the whole buffer as the call left it;
  *   'b', the book, a u64 pool: the answer is fervolatro_pool, field by field;
@@ -114,6 +116,18 @@ static void check(void)
     give(&verdict, sizeof verdict);
 }
 
+static void find_length(void)
+{
+    static slice book;
+    uint32_t account;
+    fervolatro_written found;
+
+    take_slice(&book);
+    take(&account, sizeof account);
+    found = fervolatro_length(book.bytes, book.len, account);
+    give(&found, sizeof found);
+}
+
 static void write_statement(void)
 {
     static slice book, buffer;
@@ -206,42 +220,39 @@ static void make_base_cost(void)
     give(&cost, sizeof cost);
 }
 
+/* The calls by their letters. */
+static const struct { int letter; void (*make)(void); } CALLS[] = {
+    {'c', check},
+    {'n', find_length},
+    {'s', write_statement},
+    {'b', balance},
+    {'h', read_header},
+    {'l', read_line},
+    {'a', read_all_lines},
+    {'r', rewrite},
+    {'p', make_payment},
+    {'k', make_base_cost},
+};
+
+static void answer(int letter)
+{
+    size_t i;
+
+    for (i = 0; i < sizeof CALLS / sizeof CALLS[0]; i++) {
+        if (CALLS[i].letter == letter) {
+            CALLS[i].make();
+            return;
+        }
+    }
+    fail("no such call");
+}
+
 int main(void)
 {
-    int call;
+    int letter;
 
-    while ((call = getchar()) != EOF) {
-        switch (call) {
-        case 'c':
-            check();
-            break;
-        case 's':
-            write_statement();
-            break;
-        case 'b':
-            balance();
-            break;
-        case 'h':
-            read_header();
-            break;
-        case 'l':
-            read_line();
-            break;
-        case 'a':
-            read_all_lines();
-            break;
-        case 'r':
-            rewrite();
-            break;
-        case 'p':
-            make_payment();
-            break;
-        case 'k':
-            make_base_cost();
-            break;
-        default:
-            fail("no such call");
-        }
+    while ((letter = getchar()) != EOF) {
+        answer(letter);
         if (fflush(stdout) != 0) {
             return 2;
         }

@@ -12,7 +12,13 @@
 
 /* The worked book: header and entries 84, a constraint 40, five unit rows of
  * 20, two energy rows of 24. */
-enum { WORKED_LEN = 84 + 40 + 5 * 20 + 2 * 24, USAGE_AT = 84 + 24 };
+enum {
+    ENTRY_AT = 24,
+    CONSTRAINT_AT = 84,
+    UNITS_AT = CONSTRAINT_AT + 40,
+    LAST_UNIT_AT = UNITS_AT + 4 * 20,
+    WORKED_LEN = LAST_UNIT_AT + 20 + 2 * 24
+};
 
 /* Account 7's statement of it: a header and twelve lines of 24. */
 enum {
@@ -80,6 +86,22 @@ static void expect_written(const char *name, fervolatro_written got,
     }
 }
 
+/* How much to lend for account 7's statement, which is asked first. No buffer here
+ * has room for more than is expected. */
+static size_t length_for_7(const uint8_t *book)
+{
+    fervolatro_written asked = fervolatro_length(book, WORKED_LEN, 7);
+
+    if (asked.refusal != 0 || asked.length != STATEMENT_LEN) {
+        fprintf(stderr,
+                "length for account 7: expected %d, got %" PRIu64
+                ", refused %" PRIu64 "\n",
+                STATEMENT_LEN, asked.length, asked.refusal);
+        exit(EXIT_FAILURE);
+    }
+    return (size_t)asked.length;
+}
+
 /* Asks for a statement in the first buffer_len bytes of a buffer. */
 static void expect_statement(const char *name, const uint8_t *book,
                              uint32_t account, size_t buffer_len,
@@ -110,8 +132,16 @@ static void expect_rewritten(const char *name, const uint8_t *statement,
 
 /* The other answers are alike in this: fields of 64 bits, with nothing between
  * them. */
-enum { HEADING_FIELDS = 7, ENTRY_FIELDS = 7, POOL_FIELDS = 5, COST_FIELDS = 3 };
+enum {
+    WRITTEN_FIELDS = 3,
+    HEADING_FIELDS = 7,
+    ENTRY_FIELDS = 7,
+    POOL_FIELDS = 5,
+    COST_FIELDS = 3
+};
 
+_Static_assert(sizeof(fervolatro_written) == WRITTEN_FIELDS * sizeof(uint64_t),
+               "what is written has three fields");
 _Static_assert(sizeof(fervolatro_heading) == HEADING_FIELDS * sizeof(uint64_t),
                "a heading has seven fields");
 _Static_assert(sizeof(fervolatro_entry) == ENTRY_FIELDS * sizeof(uint64_t),
@@ -141,6 +171,25 @@ static void expect_fields(const char *name, size_t fields, const void *got,
                     name, at, field(expected, at), field(got, at));
             failures++;
         }
+    }
+}
+
+/* Expects the length to be refused, and the statement by the same number at the
+ * same place, every byte of the buffer untouched. */
+static void expect_refused(const char *name, const uint8_t *book, size_t len,
+                           uint32_t account, fervolatro_written expected)
+{
+    uint8_t buffer[ROOM], untouched[ROOM];
+    fervolatro_written got = fervolatro_length(book, len, account);
+
+    expect_fields(name, WRITTEN_FIELDS, &got, &expected);
+    memset(buffer, UNTOUCHED, ROOM);
+    memset(untouched, UNTOUCHED, ROOM);
+    got = fervolatro_statement(book, len, account, buffer, ROOM);
+    expect_fields(name, WRITTEN_FIELDS, &got, &expected);
+    if (memcmp(buffer, untouched, ROOM) != 0) {
+        fprintf(stderr, "%s: other bytes in the buffer\n", name);
+        failures++;
     }
 }
 
@@ -196,6 +245,71 @@ static const uint8_t FRONT[48] = {
     0xC4, 0x05, 9, 0, 0, 0, 0, 0,      /* amount 591,300 */
 };
 
+/* The length is asked first, and just so much lent; then more, and a byte less.
+ * Account 8 is not there, and 0 is none. */
+static void statements(const uint8_t *book)
+{
+    static const fervolatro_written no_account = {11, 0, 0};
+    size_t len = length_for_7(book);
+
+    expect_statement("account 7", book, 7, len, 0, FRONT, sizeof FRONT);
+    expect_statement("account 7, room to spare", book, 7, ROOM, 0, FRONT,
+                     sizeof FRONT);
+    expect_statement("room one short", book, 7, len - 1, 13, FRONT, 0);
+    expect_statement("no room", book, 7, 0, 13, FRONT, 0);
+    expect_refused("account 8", book, WORKED_LEN, 8, no_account);
+    expect_refused("account 0", book, WORKED_LEN, 0, no_account);
+}
+
+/* The worked book with one byte changed, and what refuses it where. */
+static const struct damage {
+    const char *name;
+    size_t at;
+    uint8_t byte;
+    fervolatro_written expected;
+} DAMAGES[] = {
+    {"another mark", 0, 0, {2, 0, 0}},
+    {"interval 0", 6, 0, {3, 0, 0}},
+    {"2 constraints", 14, 2, {4, 0, 0}},
+    /* 400,000 is 0x00061A80; with a high byte of 1 it passes 1,000,000. */
+    {"usage", CONSTRAINT_AT + 27, 1, {5, CONSTRAINT_AT, 0}},
+    {"unit 1 twice", UNITS_AT + 20 + 4, 1, {6, UNITS_AT + 20, 0}},
+    /* 500 is 0x01F4. */
+    {"constraint 501", LAST_UNIT_AT, 0xF5, {7, LAST_UNIT_AT, 0}},
+    /* 80,000 is 0x00013880; another CF, and the sum is no longer 0. */
+    {"unit 1's CF", UNITS_AT + 12, 0, {8, CONSTRAINT_AT, 0}},
+    /* 1,600,000 is 0x00186A00. */
+    {"residual total of NSW1", ENTRY_AT + 8, 1, {9, ENTRY_AT, 0}},
+    {"regions QLD1", CONSTRAINT_AT + 5, 2, {10, CONSTRAINT_AT, 0}},
+};
+
+/* 1 to 10 come before 11: account 8, which is not there, changes nothing. */
+static void refused_books(const uint8_t *book)
+{
+    static const fervolatro_written too_short = {1, 0, 0};
+    static const fervolatro_written other_length = {4, 0, 0};
+    uint8_t damaged[WORKED_LEN];
+    uint32_t account;
+    size_t i;
+
+    for (account = 7; account <= 8; account++) {
+        expect_refused("no book", NULL, 0, account, too_short);
+        expect_refused("83 bytes", book, 83, account, too_short);
+        expect_refused("a byte less", book, WORKED_LEN - 1, account,
+                       other_length);
+        expect_refused("a byte more", book, WORKED_LEN + 1, account,
+                       other_length);
+        for (i = 0; i < sizeof DAMAGES / sizeof DAMAGES[0]; i++) {
+            const struct damage *damage = &DAMAGES[i];
+
+            memcpy(damaged, book, WORKED_LEN);
+            damaged[damage->at] = damage->byte;
+            expect_refused(damage->name, damaged, WORKED_LEN, account,
+                           damage->expected);
+        }
+    }
+}
+
 /* Reads account 7's statement of the worked book back. Its lines are those of
  * the listing in the scope document, its amounts in ten-thousandths of a
  * dollar. */
@@ -211,7 +325,7 @@ static void read_back(const uint8_t *book)
     enum { LEN = STATEMENT_LEN };
     uint8_t statement[LEN] = {0};
 
-    fervolatro_statement(book, WORKED_LEN, 7, statement, LEN);
+    fervolatro_statement(book, WORKED_LEN, 7, statement, length_for_7(book));
     expect_heading("header", statement, LEN, heading);
     expect_heading("header of no bytes", statement, 0, no_heading);
     expect_heading("header, one byte short", statement, LEN - 1, no_heading);
@@ -315,7 +429,7 @@ static void refused_rows(void)
 
 int main(int argc, char **argv)
 {
-    static const fervolatro_pool no_usage = {5, 84, 0, 0, 0};
+    static const fervolatro_pool no_usage = {5, CONSTRAINT_AT, 0, 0, 0};
     uint8_t book[WORKED_LEN + 1] = {0};
 
     if (argc != 2) {
@@ -330,20 +444,16 @@ int main(int argc, char **argv)
     expect("one byte short", book, WORKED_LEN - 1, 4, 0);
     expect("one byte long", book, WORKED_LEN + 1, 4, 0);
 
-    expect_statement("account 7", book, 7, STATEMENT_LEN, 0, FRONT,
-                     sizeof FRONT);
-    expect_statement("account 7, room to spare", book, 7, ROOM, 0, FRONT,
-                     sizeof FRONT);
-    expect_statement("room one short", book, 7, STATEMENT_LEN - 1, 13, FRONT, 0);
-    expect_statement("account 8", book, 8, STATEMENT_LEN, 11, FRONT, 0);
+    statements(book);
+    refused_books(book);
     read_back(book);
     balances(book);
     costs();
     refused_rows();
 
-    /* Usage 400,000 is 0x00061A80; with a high byte of 1 it passes 1,000,000. */
-    book[USAGE_AT + 3] = 1;
-    expect("usage past its range", book, WORKED_LEN, 5, 84);
+    /* As among the damages. */
+    book[CONSTRAINT_AT + 27] = 1;
+    expect("usage past its range", book, WORKED_LEN, 5, CONSTRAINT_AT);
     expect_pool("a pool of a refused book", book, WORKED_LEN, 0, no_usage);
 
     return failures == 0 ? EXIT_SUCCESS : EXIT_FAILURE;

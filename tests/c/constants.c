@@ -212,7 +212,9 @@ static void read_book(const char *path)
     }
 }
 
-/* The answer to the book with one byte of it changed. */
+/* The answer to the book with one byte of it changed. No byte that is changed here
+ * names an account: what refuses the book refuses the length for 7, and nothing
+ * else does. */
 static uint64_t check_with(size_t at, uint8_t byte)
 {
     uint8_t before = book[at];
@@ -220,6 +222,8 @@ static uint64_t check_with(size_t at, uint8_t byte)
 
     book[at] = byte;
     refusal = fervolatro_check(book, BOOK_LEN).refusal;
+    expect("the length for account 7",
+           fervolatro_length(book, BOOK_LEN, 7).refusal, refusal);
     book[at] = before;
     return refusal;
 }
@@ -264,19 +268,35 @@ static void refusals_of_a_book(void)
            FERVOLATRO_REFUSED_PAST_END);
 }
 
+/* How much to lend for account 7's statement, which is asked first. There is room
+ * for no more than is expected. */
+static size_t length_for_7(void)
+{
+    fervolatro_written asked = fervolatro_length(book, BOOK_LEN, 7);
+
+    expect("length for account 7", asked.refusal, FERVOLATRO_NOT_REFUSED);
+    expect_number("which is", asked.length, STATEMENT_LEN);
+    if (asked.length != STATEMENT_LEN) {
+        exit(EXIT_FAILURE);
+    }
+    return (size_t)asked.length;
+}
+
 static void refusals_of_a_statement(void)
 {
+    size_t len = length_for_7();
+
+    expect("length for account 8",
+           fervolatro_length(book, BOOK_LEN, 8).refusal,
+           FERVOLATRO_REFUSED_NO_ACCOUNT);
     expect("account 7",
-           fervolatro_statement(book, BOOK_LEN, 7, statement, STATEMENT_LEN)
-               .refusal,
+           fervolatro_statement(book, BOOK_LEN, 7, statement, len).refusal,
            FERVOLATRO_NOT_REFUSED);
     expect("account 8",
-           fervolatro_statement(book, BOOK_LEN, 8, statement, STATEMENT_LEN)
-               .refusal,
+           fervolatro_statement(book, BOOK_LEN, 8, statement, len).refusal,
            FERVOLATRO_REFUSED_NO_ACCOUNT);
     expect("room one short",
-           fervolatro_statement(book, BOOK_LEN, 7, statement, STATEMENT_LEN - 1)
-               .refusal,
+           fervolatro_statement(book, BOOK_LEN, 7, statement, len - 1).refusal,
            FERVOLATRO_REFUSED_BUFFER);
     expect("a byte less of the statement",
            fervolatro_header(statement, STATEMENT_LEN - 1).refusal,

@@ -3,7 +3,8 @@
  * field of every answer and of every parameter, which no contract of the proved
  * code speaks of. The fields of an answer differ from each other, and numbers of
  * 2^32 and above stand wherever the type and the rules have room for them. And
- * sees that a slice of length 0 may come with any pointer.
+ * sees that a slice of length 0 may come with any pointer, and that the calls on a
+ * book touch no byte behind what they are lent.
  *
  * The one argument is the machine's name (`uname -m`). Lengths of 2^32 and above
  * want a mapping of that size; a machine other than x86_64, where this runs in an
@@ -19,6 +20,7 @@
 #include <stdlib.h>
 #include <string.h>
 #include <sys/mman.h>
+#include <unistd.h>
 
 #include "fervolatro.h"
 
@@ -219,6 +221,17 @@ static void put_energy(uint8_t *at, uint64_t account, uint64_t region,
     put(at, 16, 4, (uint64_t)INT64_C(-1));
 }
 
+/* What the energy rows of a region sum to. */
+static void put_entry(uint8_t *book, size_t region, int64_t ace, int64_t asoe,
+                      int64_t residual)
+{
+    uint8_t *at = book + HEADER_LEN + region * ENTRY_LEN;
+
+    put(at, 0, 4, (uint64_t)ace);
+    put(at, 4, 4, (uint64_t)asoe);
+    put(at, 8, 4, (uint64_t)residual);
+}
+
 /* The whole benefit is one region's. */
 static void put_contract(uint8_t *at, uint64_t id, uint64_t kind,
                          uint64_t payment, size_t region)
@@ -272,15 +285,12 @@ enum {
  */
 static void make_book(uint8_t book[BOOK_LEN])
 {
-    uint8_t *sa1 = book + HEADER_LEN + SA1 * ENTRY_LEN;
     uint8_t *regulation = book + CONSTRAINTS_AT + CONSTRAINT_LEN;
 
     memset(book, 0, BOOK_LEN);
     put_front(book, "RCB");
     put_counts(book, 2, 2, 3, 1);
-    put(sa1, 0, 4, (uint64_t)INT64_C(-6));
-    put(sa1, 4, 4, 3);
-    put(sa1, 8, 4, 3);
+    put_entry(book, SA1, -6, 3, 3);
 
     put_constraint(book + CONSTRAINTS_AT, CONTINGENCY, 1, CONTINGENCY_REGIONS, 0,
                    UINT64_C(49999999999));
@@ -339,6 +349,12 @@ static const fervolatro_entry LINE[LINES] = {
     {.id = CONTRACT, .part = 10, .regions = 1 << SA1,
      .amount = -INT64_C(6666666667)},
 };
+
+static const fervolatro_written WHOLE = {.length = STATEMENT_LEN};
+
+/* Account 5 has no unit: a contingency line, three of a residual and two of the
+ * contract. */
+static const fervolatro_written WHOLE_OF_5 = {.length = HEADER_LEN + 6 * LINE_LEN};
 
 static const fervolatro_heading HEADING = {.account = ACCOUNT,
                                            .date = DATE,
@@ -442,20 +458,55 @@ static void expect_left(const char *name, const uint8_t *buffer, size_t room,
     }
 }
 
-static void good_calls_on_the_book(const uint8_t *book,
-                                   const uint8_t *statement)
+/* How much to lend for ACCOUNT's statement, which is asked first. No buffer here is
+ * sure to have room for more than is expected. */
+static size_t length_asked(const uint8_t *book)
+{
+    fervolatro_written asked = fervolatro_length(book, BOOK_LEN, ACCOUNT);
+
+    expect_written("length", asked, WHOLE);
+    if (asked.length != STATEMENT_LEN) {
+        exit(EXIT_FAILURE);
+    }
+    return (size_t)asked.length;
+}
+
+/* Just so much is lent; then more, of which what follows is untouched; then a byte
+ * less. */
+static void good_call_for_a_statement(const uint8_t *book,
+                                      const uint8_t *statement)
 {
     uint8_t buffer[ROOM];
+    size_t len = length_asked(book);
+
+    memset(buffer, UNTOUCHED, ROOM);
+    expect_written("statement",
+                   fervolatro_statement(book, BOOK_LEN, ACCOUNT, buffer, len),
+                   WHOLE);
+    expect_left("statement", buffer, ROOM, statement, STATEMENT_LEN);
+
+    memset(buffer, UNTOUCHED, ROOM);
+    expect_written("statement into more",
+                   fervolatro_statement(book, BOOK_LEN, ACCOUNT, buffer, ROOM),
+                   WHOLE);
+    expect_left("statement into more", buffer, ROOM, statement, STATEMENT_LEN);
+
+    memset(buffer, UNTOUCHED, ROOM);
+    expect_written("statement into less",
+                   fervolatro_statement(book, BOOK_LEN, ACCOUNT, buffer,
+                                        len - 1),
+                   (fervolatro_written){.refusal = 13});
+    expect_left("statement into less", buffer, ROOM, buffer, 0);
+}
+
+static void good_calls_on_the_book(const uint8_t *book)
+{
     uint64_t pool;
 
     expect_verdict("check", fervolatro_check(book, BOOK_LEN),
                    (fervolatro_verdict){0});
-
-    memset(buffer, UNTOUCHED, ROOM);
-    expect_written("statement",
-                   fervolatro_statement(book, BOOK_LEN, ACCOUNT, buffer, ROOM),
-                   (fervolatro_written){.length = STATEMENT_LEN});
-    expect_left("statement", buffer, ROOM, statement, STATEMENT_LEN);
+    expect_written("length for another account",
+                   fervolatro_length(book, BOOK_LEN, 5), WHOLE_OF_5);
 
     for (pool = 0; pool < POOLS; pool++) {
         expect_pool("balance", fervolatro_balance(book, BOOK_LEN, pool),
@@ -581,6 +632,8 @@ static void make_refused(uint8_t book[LARGEST_LEN])
 
 static void refused_calls_on_a_book(void)
 {
+    static const fervolatro_written refused = {.refusal = 5,
+                                               .place = LAST_CONTRACT_AT};
     static uint8_t book[LARGEST_LEN];
     uint8_t buffer[ROOM];
 
@@ -588,12 +641,13 @@ static void refused_calls_on_a_book(void)
     expect_verdict(
         "check refused", fervolatro_check(book, LARGEST_LEN),
         (fervolatro_verdict){.refusal = 5, .place = LAST_CONTRACT_AT});
+    expect_written("length refused", fervolatro_length(book, LARGEST_LEN, 1),
+                   refused);
 
     memset(buffer, UNTOUCHED, ROOM);
-    expect_written(
-        "statement refused",
-        fervolatro_statement(book, LARGEST_LEN, 1, buffer, ROOM),
-        (fervolatro_written){.refusal = 5, .place = LAST_CONTRACT_AT});
+    expect_written("statement refused",
+                   fervolatro_statement(book, LARGEST_LEN, 1, buffer, ROOM),
+                   refused);
     expect_left("statement refused", buffer, ROOM, buffer, 0);
 
     expect_pool("balance refused", fervolatro_balance(book, LARGEST_LEN, 0),
@@ -693,6 +747,115 @@ static void refused_calls_on_rows(void)
                 refused);
 }
 
+/* ---- The longest statement. */
+
+/*
+ * An accepted book of the most records, with every unit ACCOUNT's: its statement has
+ * 3 x 600 lines of units, 3 x 64 of residuals and 2 x 5 x 16 of contracts. It has
+ * 51,672 = 0xC9D8 bytes: above 2^15, and different in each of its two bytes.
+ *
+ * Of each constraint the first unit's CF is 1,000,000, which RCF -1,000,000 makes 0;
+ * DRCF is -1,000,000. Energy rows are of accounts 1 to 205, in the regions in turn:
+ * 205 rows in each region, and 204 in the last.
+ */
+enum { LONGEST_LEN = HEADER_LEN + 2152 * LINE_LEN, MILLION = 1000000 };
+
+_Static_assert(LONGEST_LEN == 51672, "24 + 24 x (1,800 + 192 + 160)");
+
+/* Its sections, each of which ends where the next begins. */
+static uint8_t *put_factored(uint8_t *at)
+{
+    uint64_t i;
+
+    for (i = 1; i <= MOST_CONSTRAINTS; i++, at += CONSTRAINT_LEN) {
+        put_constraint(at, i, RAISE, 31, 1, 0);
+        put(at, 28, 4, (uint64_t)-MILLION);
+        put(at, 32, 4, (uint64_t)-MILLION);
+    }
+    return at;
+}
+
+static uint8_t *put_units(uint8_t *at)
+{
+    uint64_t i, constraint, before = 0;
+
+    for (i = 0; i < MOST_UNITS; i++, at += UNIT_LEN) {
+        constraint = 1 + i * MOST_CONSTRAINTS / MOST_UNITS;
+        put_unit(at, constraint, i + 1, ACCOUNT,
+                 constraint == before ? 0 : MILLION, 0);
+        before = constraint;
+    }
+    return at;
+}
+
+static uint8_t *put_energies(uint8_t *at)
+{
+    uint64_t i;
+
+    for (i = 0; i < MOST_ENERGIES; i++, at += ENERGY_LEN) {
+        put_energy(at, 1 + i / 5, i % 5, -1, 1);
+    }
+    return at;
+}
+
+static void put_contracts(uint8_t *at)
+{
+    uint64_t i, region;
+
+    for (i = 1; i <= MOST_CONTRACTS; i++, at += CONTRACT_LEN) {
+        put_contract(at, i, 1, 0, 0);
+        for (region = 0; region < 5; region++) {
+            put(at, 16 + 4 * region, 4, MILLION / 5);
+        }
+    }
+}
+
+static void make_longest(uint8_t book[LARGEST_LEN])
+{
+    size_t region;
+    int64_t rows;
+
+    memset(book, 0, LARGEST_LEN);
+    put_front(book, "RCB");
+    put_counts(book, MOST_CONSTRAINTS, MOST_UNITS, MOST_ENERGIES,
+               MOST_CONTRACTS);
+    for (region = 0; region < 5; region++) {
+        rows = region < 4 ? 205 : 204;
+        put_entry(book, region, -rows, rows, rows);
+    }
+    put_contracts(put_energies(put_units(put_factored(book + ENTRIES_END))));
+}
+
+/* Account 205 has no unit, and so 192 lines of residuals and 160 of contracts. */
+static void longest_statement(void)
+{
+    static const fervolatro_written longest = {.length = LONGEST_LEN};
+    static const fervolatro_written without_units = {.length = HEADER_LEN
+                                                               + 352 * LINE_LEN};
+    static const fervolatro_heading heading = {.account = ACCOUNT,
+                                               .date = DATE,
+                                               .interval = INTERVAL,
+                                               .run = RUN,
+                                               .lines = 2152};
+    static uint8_t book[LARGEST_LEN], buffer[LONGEST_LEN];
+
+    make_longest(book);
+    expect_written("longest length",
+                   fervolatro_length(book, LARGEST_LEN, ACCOUNT), longest);
+    expect_written("length without units",
+                   fervolatro_length(book, LARGEST_LEN, 205), without_units);
+    expect_written("longest statement, a byte less",
+                   fervolatro_statement(book, LARGEST_LEN, ACCOUNT, buffer,
+                                        LONGEST_LEN - 1),
+                   (fervolatro_written){.refusal = 13});
+    expect_written("longest statement",
+                   fervolatro_statement(book, LARGEST_LEN, ACCOUNT, buffer,
+                                        LONGEST_LEN),
+                   longest);
+    expect_heading("longest header", fervolatro_header(buffer, LONGEST_LEN),
+                   heading);
+}
+
 /* ---- Numbers of 2^32 and above, given. */
 
 /* Each is a pool's or a line's number, and one bit more. */
@@ -718,16 +881,20 @@ static void numbers_past_the_end(const uint8_t *book, const uint8_t *statement)
 /* Each differs from an account that is there in one bit. */
 static void accounts_that_are_not_there(const uint8_t *book)
 {
+    static const fervolatro_written no_account = {.refusal = 11};
     uint8_t buffer[ROOM];
+    uint32_t account;
     int bit;
 
     memset(buffer, UNTOUCHED, ROOM);
     for (bit = 0; bit < 32; bit++) {
+        account = ACCOUNT ^ (UINT32_C(1) << bit);
+        expect_written("length for an account of another bit",
+                       fervolatro_length(book, BOOK_LEN, account), no_account);
         expect_written("account of another bit",
-                       fervolatro_statement(book, BOOK_LEN,
-                                            ACCOUNT ^ (UINT32_C(1) << bit),
-                                            buffer, ROOM),
-                       (fervolatro_written){.refusal = 11});
+                       fervolatro_statement(book, BOOK_LEN, account, buffer,
+                                            ROOM),
+                       no_account);
     }
     expect_left("account of another bit", buffer, ROOM, buffer, 0);
 }
@@ -785,6 +952,9 @@ static void long_book(uint8_t *mapped, const uint8_t *book)
                    (fervolatro_verdict){.refusal = 4});
     expect_pool("balance of a long book", fervolatro_balance(mapped, len, 0),
                 (fervolatro_pool){.refusal = 4});
+    expect_written("length of a long book",
+                   fervolatro_length(mapped, len, ACCOUNT),
+                   (fervolatro_written){.refusal = 4});
     memset(buffer, UNTOUCHED, ROOM);
     expect_written("statement of a long book",
                    fervolatro_statement(mapped, len, ACCOUNT, buffer, ROOM),
@@ -832,19 +1002,18 @@ static void long_rows(uint8_t *mapped, const uint8_t *rows)
 static void long_buffer(uint8_t *mapped, const uint8_t *book,
                         const uint8_t *statement)
 {
-    static const fervolatro_written whole = {.length = STATEMENT_LEN};
     const size_t len = TWO_TO_32 + 10;
 
     memset(mapped, UNTOUCHED, ROOM);
     expect_written("statement into a long buffer",
                    fervolatro_statement(book, BOOK_LEN, ACCOUNT, mapped, len),
-                   whole);
+                   WHOLE);
     expect_left("statement into a long buffer", mapped, ROOM, statement,
                 STATEMENT_LEN);
     memset(mapped, UNTOUCHED, ROOM);
     expect_written("rewrite into a long buffer",
                    fervolatro_rewrite(statement, STATEMENT_LEN, mapped, len),
-                   whole);
+                   WHOLE);
     expect_left("rewrite into a long buffer", mapped, ROOM, statement,
                 STATEMENT_LEN);
     memset(mapped, UNTOUCHED, LINES_LEN + 1);
@@ -899,6 +1068,8 @@ static void no_book_at(const uint8_t *pointer)
                    (fervolatro_verdict){.refusal = 1});
     expect_pool("balance of nothing", fervolatro_balance(pointer, 0, 0),
                 (fervolatro_pool){.refusal = 1});
+    expect_written("length of nothing", fervolatro_length(pointer, 0, ACCOUNT),
+                   refused);
     memset(buffer, UNTOUCHED, ROOM);
     expect_written("statement of nothing",
                    fervolatro_statement(pointer, 0, ACCOUNT, buffer, ROOM),
@@ -991,6 +1162,71 @@ static void slices_of_no_bytes(uint8_t *book, uint8_t *statement,
     }
 }
 
+/* ---- Bytes that end where a page ends. */
+
+/* So many bytes, fewer than a page has, and behind them a page that can neither be
+ * read nor written: a call that goes on there is stopped. They stay until the
+ * program ends. */
+static uint8_t *before_a_wall(size_t len)
+{
+    const size_t page = (size_t)sysconf(_SC_PAGESIZE);
+    uint8_t *mapped = mmap(NULL, 2 * page, PROT_READ | PROT_WRITE,
+                           MAP_PRIVATE | MAP_ANONYMOUS, -1, 0);
+
+    if (mapped == MAP_FAILED || mprotect(mapped + page, page, PROT_NONE) != 0) {
+        perror("edge: a page that is closed");
+        exit(2);
+    }
+    return mapped + page - len;
+}
+
+/* What refuses the first bytes of the book, so many: they are fewer than 84, or than
+ * its counts make it. */
+static uint64_t refusal_of_front(size_t len)
+{
+    if (len == BOOK_LEN) {
+        return 0;
+    }
+    return len < ENTRIES_END ? 1 : 4;
+}
+
+static void calls_on_a_front(const uint8_t *front, size_t len, uint8_t *buffer)
+{
+    const uint64_t refusal = refusal_of_front(len);
+    fervolatro_written written = {.refusal = refusal};
+    fervolatro_pool pool = {.refusal = refusal};
+
+    if (refusal == 0) {
+        written = WHOLE;
+        pool = POOL[0];
+    }
+    expect_verdict("check before a wall", fervolatro_check(front, len),
+                   (fervolatro_verdict){.refusal = refusal});
+    expect_written("length before a wall",
+                   fervolatro_length(front, len, ACCOUNT), written);
+    expect_written("statement before a wall",
+                   fervolatro_statement(front, len, ACCOUNT, buffer,
+                                        STATEMENT_LEN),
+                   written);
+    expect_pool("balance before a wall", fervolatro_balance(front, len, 0),
+                pool);
+}
+
+static void books_before_a_wall(const uint8_t *book, const uint8_t *statement)
+{
+    uint8_t *end = before_a_wall(BOOK_LEN) + BOOK_LEN;
+    uint8_t *buffer = before_a_wall(STATEMENT_LEN);
+    size_t len;
+
+    memset(buffer, UNTOUCHED, STATEMENT_LEN);
+    for (len = 0; len <= BOOK_LEN; len++) {
+        memcpy(end - len, book, len);
+        calls_on_a_front(end - len, len, buffer);
+        expect_left("statement before a wall", buffer, STATEMENT_LEN, statement,
+                    len == BOOK_LEN ? STATEMENT_LEN : 0);
+    }
+}
+
 /* ---- What a caller's compiler leaves open. */
 
 /*
@@ -1006,6 +1242,8 @@ typedef struct {
 
 typedef void any_call(void);
 typedef void *read_call(void *answer, const uint8_t *bytes, size_t len);
+typedef void *length_call(void *answer, const uint8_t *book, size_t len,
+                          uint32_t account);
 typedef void *numbered_call(void *answer, const uint8_t *bytes, size_t len,
                             uint64_t number);
 typedef void *named_call(void *answer, const uint8_t *bytes, size_t len,
@@ -1041,23 +1279,25 @@ static void expect_painted(const char *name, const painted *answer,
 
 static void painted_answers_on_a_book(const uint8_t *book)
 {
-    static const fervolatro_written whole = {.length = STATEMENT_LEN};
+    length_call *length_into = (length_call *)(any_call *)fervolatro_length;
     statement_call *statement_into =
         (statement_call *)(any_call *)fervolatro_statement;
     numbered_call *balance_into =
         (numbered_call *)(any_call *)fervolatro_balance;
-    uint8_t buffer[ROOM];
+    uint8_t buffer[STATEMENT_LEN];
     painted answer;
 
-    statement_into(paint(&answer), book, BOOK_LEN, ACCOUNT, buffer, ROOM);
-    expect_painted("statement, painted", &answer, WRITTEN_FIELDS, &whole);
+    length_into(paint(&answer), book, BOOK_LEN, ACCOUNT);
+    expect_painted("length, painted", &answer, WRITTEN_FIELDS, &WHOLE);
+    statement_into(paint(&answer), book, BOOK_LEN, ACCOUNT, buffer,
+                   length_asked(book));
+    expect_painted("statement, painted", &answer, WRITTEN_FIELDS, &WHOLE);
     balance_into(paint(&answer), book, BOOK_LEN, 0);
     expect_painted("balance, painted", &answer, POOL_FIELDS, &POOL[0]);
 }
 
 static void painted_answers_on_a_statement(const uint8_t *statement)
 {
-    static const fervolatro_written whole = {.length = STATEMENT_LEN};
     read_call *header_into = (read_call *)(any_call *)fervolatro_header;
     numbered_call *line_into = (numbered_call *)(any_call *)fervolatro_line;
     rewrite_call *rewrite_into =
@@ -1072,7 +1312,7 @@ static void painted_answers_on_a_statement(const uint8_t *statement)
     line_into(paint(&answer), statement, STATEMENT_LEN, 1);
     expect_painted("line, painted", &answer, ENTRY_FIELDS, &LINE[1]);
     rewrite_into(paint(&answer), statement, STATEMENT_LEN, buffer, LINES_LEN);
-    expect_painted("rewrite, painted", &answer, WRITTEN_FIELDS, &whole);
+    expect_painted("rewrite, painted", &answer, WRITTEN_FIELDS, &WHOLE);
     lines_into(paint(&answer), statement, STATEMENT_LEN, buffer, LINES_LEN);
     expect_painted("lines, painted", &answer, WRITTEN_FIELDS, &all_lines);
 }
@@ -1092,21 +1332,27 @@ static void painted_answers_on_rows(const uint8_t *rows)
 
 /* An account has 32 bits, and the upper half of the register that it comes in may
  * hold anything (the same section of the ABI). */
+typedef fervolatro_written wide_length_call(const uint8_t *book, size_t len,
+                                            uint64_t account);
 typedef fervolatro_written wide_account_call(const uint8_t *book, size_t len,
                                              uint64_t account, uint8_t *buffer,
                                              size_t room);
 
 static void account_in_a_wide_register(const uint8_t *book)
 {
+    static const uint64_t account = UINT64_C(0xA5A5A5A500000000) + ACCOUNT;
+    wide_length_call *length_of =
+        (wide_length_call *)(any_call *)fervolatro_length;
     wide_account_call *statement_of =
         (wide_account_call *)(any_call *)fervolatro_statement;
-    uint8_t buffer[ROOM];
+    uint8_t buffer[STATEMENT_LEN];
 
+    expect_written("length for an account in a wide register",
+                   length_of(book, BOOK_LEN, account), WHOLE);
     expect_written("account in a wide register",
-                   statement_of(book, BOOK_LEN,
-                                UINT64_C(0xA5A5A5A500000000) + ACCOUNT, buffer,
-                                ROOM),
-                   (fervolatro_written){.length = STATEMENT_LEN});
+                   statement_of(book, BOOK_LEN, account, buffer,
+                                length_asked(book)),
+                   WHOLE);
 }
 
 /* So has the id of a constraint. */
@@ -1124,6 +1370,16 @@ static void id_in_a_wide_register(const uint8_t *rows)
                 RAISE_COST);
 }
 
+/* In each kind of answer, as it is expected here. */
+static void fields_that_differ(void)
+{
+    expect_distinct("the length", WRITTEN_FIELDS, &WHOLE);
+    expect_distinct("the heading", HEADING_FIELDS, &HEADING);
+    expect_distinct("the unit's first line", ENTRY_FIELDS, &LINE[1]);
+    expect_distinct("the first pool", POOL_FIELDS, &POOL[0]);
+    expect_distinct("the raise payment", COST_FIELDS, &RAISE_PAYMENT);
+}
+
 int main(int argc, char **argv)
 {
     uint8_t book[BOOK_LEN], statement[STATEMENT_LEN], rows[ROWS_LEN];
@@ -1136,11 +1392,9 @@ int main(int argc, char **argv)
     make_statement(statement);
     make_rows(rows);
 
-    expect_distinct("the heading", HEADING_FIELDS, &HEADING);
-    expect_distinct("the unit's first line", ENTRY_FIELDS, &LINE[1]);
-    expect_distinct("the first pool", POOL_FIELDS, &POOL[0]);
-    expect_distinct("the raise payment", COST_FIELDS, &RAISE_PAYMENT);
-    good_calls_on_the_book(book, statement);
+    fields_that_differ();
+    good_calls_on_the_book(book);
+    good_call_for_a_statement(book, statement);
     good_calls_on_the_statement(statement);
     good_call_for_all_lines(statement);
     good_calls_on_rows(rows);
@@ -1148,6 +1402,7 @@ int main(int argc, char **argv)
     refused_calls_on_a_statement(statement);
     refused_calls_for_all_lines(statement);
     refused_calls_on_rows();
+    longest_statement();
     numbers_past_the_end(book, statement);
     accounts_that_are_not_there(book);
     services_that_are_not_there(rows);
@@ -1159,6 +1414,7 @@ int main(int argc, char **argv)
     id_in_a_wide_register(rows);
     lengths(argv[1], book, statement, rows);
     slices_of_no_bytes(book, statement, rows);
+    books_before_a_wall(book, statement);
 
     return failures == 0 ? EXIT_SUCCESS : EXIT_FAILURE;
 }

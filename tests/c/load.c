@@ -27,6 +27,7 @@ enum {
 
 static struct {
     CALL(check);
+    CALL(length);
     CALL(statement);
     CALL(balance);
     CALL(header);
@@ -60,6 +61,7 @@ static void *load(const char *path)
         exit(1);
     }
     FIND(loaded, check);
+    FIND(loaded, length);
     FIND(loaded, statement);
     FIND(loaded, balance);
     FIND(loaded, header);
@@ -112,19 +114,45 @@ static void balances(const uint8_t *book)
            FERVOLATRO_REFUSED_PAST_END);
 }
 
-/* Account 7's, of 312 bytes; 311 are too few, and account 8 is not there. */
-static void statements(const uint8_t *book, uint8_t statement[STATEMENT_LEN])
+/* The length for account 7 is 312, and account 8 is not there. Everything below
+ * reads so many bytes. */
+static size_t lengths(const uint8_t *book)
 {
+    fervolatro_written asked = library.length(book, BOOK_LEN, 8);
+
+    expect("length for account 8", (int64_t)asked.refusal,
+           FERVOLATRO_REFUSED_NO_ACCOUNT);
+    expect("which is none", (int64_t)asked.length, 0);
+    asked = library.length(book, BOOK_LEN, 7);
+    expect("length for account 7", (int64_t)asked.refusal,
+           FERVOLATRO_NOT_REFUSED);
+    expect("its place", (int64_t)asked.place, 0);
+    expect("which is", (int64_t)asked.length, 312);
+    if (asked.length != STATEMENT_LEN) {
+        exit(1);
+    }
+    return (size_t)asked.length;
+}
+
+/* Account 7's, in memory of just the length that was asked for; a byte less is too
+ * little. */
+static uint8_t *write_statement(const uint8_t *book, size_t len)
+{
+    uint8_t *statement = calloc(len, 1);
     fervolatro_written written;
 
-    written = library.statement(book, BOOK_LEN, 8, statement, STATEMENT_LEN);
+    if (statement == NULL) {
+        fprintf(stderr, "no memory\n");
+        exit(2);
+    }
+    written = library.statement(book, BOOK_LEN, 8, statement, len);
     expect("account 8", (int64_t)written.refusal, FERVOLATRO_REFUSED_NO_ACCOUNT);
-    written =
-        library.statement(book, BOOK_LEN, 7, statement, STATEMENT_LEN - 1);
+    written = library.statement(book, BOOK_LEN, 7, statement, len - 1);
     expect("311 bytes", (int64_t)written.refusal, FERVOLATRO_REFUSED_BUFFER);
-    written = library.statement(book, BOOK_LEN, 7, statement, STATEMENT_LEN);
+    written = library.statement(book, BOOK_LEN, 7, statement, len);
     expect("account 7", (int64_t)written.refusal, FERVOLATRO_NOT_REFUSED);
-    expect("its statement's length", (int64_t)written.length, 312);
+    expect("its statement's length", (int64_t)written.length, (int64_t)len);
+    return statement;
 }
 
 static void read_back(const uint8_t *statement)
@@ -195,7 +223,7 @@ static void costs(void)
 
 int main(int argc, char **argv)
 {
-    uint8_t book[BOOK_LEN], statement[STATEMENT_LEN] = {0};
+    uint8_t book[BOOK_LEN], *statement;
     void *loaded;
 
     if (argc != 3) {
@@ -207,12 +235,13 @@ int main(int argc, char **argv)
 
     expect("check", (int64_t)library.check(book, BOOK_LEN).refusal,
            FERVOLATRO_NOT_REFUSED);
-    statements(book, statement);
+    statement = write_statement(book, lengths(book));
     balances(book);
     read_back(statement);
     read_all(statement);
     write_again(statement);
     costs();
+    free(statement);
     expect("unloading", dlclose(loaded), 0);
 
     return failures == 0 ? EXIT_SUCCESS : EXIT_FAILURE;

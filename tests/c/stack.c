@@ -1,10 +1,11 @@
 /*
  * Sees how much stack the library's calls use: each is made on a stack of its
  * own, painted before. A book and an account are the arguments. Prints the bytes
- * that each call paints over: a check, the statement of the account, the balances
- * (the most over all pools), the statement's header, its first line, all its lines
- * and the statement written again, and a payment and a base cost (the most over few
- * dispatch rows and many). Exits non-zero if one of them passes 4 KiB.
+ * that each call paints over: a check, the length of the account's statement, the
+ * statement into just so many bytes, the balances (the most over all pools), the
+ * statement's header, its first line, all its lines and the statement written again,
+ * and a payment and a base cost (the most over few dispatch rows and many). Exits
+ * non-zero if one of them passes 4 KiB.
  */
 #define _XOPEN_SOURCE 700
 
@@ -26,6 +27,7 @@ enum {
 
 /* A byte more than any book has: a longer file is then refused. */
 static uint8_t book[FERVOLATRO_LARGEST_BOOK + 1];
+/* Memory for any statement, of which just the one's length is lent. */
 static uint8_t statement[FERVOLATRO_LARGEST_STATEMENT];
 static uint8_t buffer[FERVOLATRO_LARGEST_STATEMENT];
 static fervolatro_fields lines[FERVOLATRO_MOST_LINES];
@@ -44,13 +46,20 @@ static void check(void)
     refusal = fervolatro_check(book, book_len).refusal;
 }
 
+static void find_length(void)
+{
+    fervolatro_written asked = fervolatro_length(book, book_len, account);
+
+    refusal = asked.refusal;
+    statement_len = (size_t)asked.length;
+}
+
+/* The length was asked first, and just so much is lent. */
 static void write_statement(void)
 {
-    fervolatro_written written = fervolatro_statement(
-        book, book_len, account, statement, sizeof statement);
-
-    refusal = written.refusal;
-    statement_len = (size_t)written.length;
+    refusal = fervolatro_statement(book, book_len, account, statement,
+                                   statement_len)
+                  .refusal;
 }
 
 static void balance(void)
@@ -78,7 +87,7 @@ static void read_lines(void)
 static void rewrite(void)
 {
     refusal = fervolatro_rewrite(statement, statement_len, buffer,
-                                 sizeof buffer)
+                                 statement_len)
                   .refusal;
 }
 
@@ -227,6 +236,7 @@ int main(int argc, char **argv)
     account = (uint32_t)strtoul(argv[2], NULL, 10);
 
     kept = accepted_and_shown("check", check);
+    kept &= accepted_and_shown("length", find_length);
     kept &= accepted_and_shown("statement", write_statement);
     kept &= shown("balance", used_by_balances());
     kept &= accepted_and_shown("header", read_header);

@@ -1,4 +1,4 @@
-// The three demands, asked of the library's calls themselves. Each function here makes one call (of demand 3, two), and its contract is the demand's own
+// The three demands, asked of the library's calls themselves. Each function here makes one call or two, and its contract is the demand's own
 // definition: nothing lies between a demand and the edge, and a call that loses its promise is refused here. Nobody calls these functions.
 ghost use mathlib.Core.Path.{_≡_};
 ghost use mathlib.Core.List.{List};
@@ -6,8 +6,9 @@ ghost use Prim.Native.Nat.{ℕ};
 ghost use Rattle.reading.specs.Rewriting.{rewritten};
 ghost use Rattle.unpacking.specs.Unpacking.{unpacked};
 ghost use Rattle.settlement.specs.Settle.{outcome};
-ghost use Rattle.demands.specs.Demand1.{CheckAnswered, PoolAnswered, HeadingAnswered, EntryAnswered, CostAnswered, Gives, Answered, onAStatement, onRewriting};
+ghost use Rattle.demands.specs.Demand1.{CheckAnswered, LengthAnswered, PoolAnswered, HeadingAnswered, EntryAnswered, CostAnswered, Gives, Answered, onAStatement, onRewriting};
 ghost use Rattle.demands.specs.Demand2.{NumbersAreTheGuides, StatementIsTheGuides, LinesAreTheLineCalls, PoolCloses};
+ghost use Rattle.demands.specs.Length.{AskedFirst, AsLongAsTheGuides};
 ghost use Rattle.demands.specs.Demand3.{Agree, AgreeButForCosts, Way, CostsMade, Same};
 use answers::CostAnswer;
 use answers::EntryAnswer;
@@ -21,6 +22,13 @@ pub fn check(book: &[u8]) -> VerdictAnswer
     ensures { λ r. ⌜ (r .refusal ≡ 0 → NumbersAreTheGuides (now (book .entry))) ⌝ }
 {
     fervolatro::fervolatro_check(book)
+}
+
+pub fn length(book: &[u8], account: u32) -> WrittenAnswer
+    ensures { λ r. ⌜ LengthAnswered r ⌝ }
+    ensures { λ r. ⌜ (r .refusal ≡ 0 → AsLongAsTheGuides (now (book .entry)) account r) ⌝ }
+{
+    fervolatro::fervolatro_length(book, account)
 }
 
 pub fn statement(book: &[u8], account: u32, buffer: &mut [u8]) -> WrittenAnswer
@@ -79,6 +87,24 @@ pub fn base_cost(rows: &[u8], id: u32, service: u64) -> CostAnswer
 pub struct Both {
     pub first: WrittenAnswer,
     pub second: WrittenAnswer,
+}
+
+// The length asked for, and then the statement: how the two answers stand to each other, whatever is lent.
+pub fn asked_first(book: &[u8], account: u32, buffer: &mut [u8]) -> Both
+    ensures { λ r. ⌜ AskedFirst (now (buffer .entry)) (r .first) (r .second) (now (buffer .exit)) ⌝ }
+{
+    let first = fervolatro::fervolatro_length(book, account);
+    let second = fervolatro::fervolatro_statement(book, account, buffer);
+    Both { first, second }
+}
+
+// The lengths of one account's statements from two books.
+pub fn lengths(book: &[u8], other: &[u8], account: u32) -> Both
+    ensures { λ r. ⌜ (Agree (now (book .entry)) (now (other .entry)) account → r .first ≡ r .second) ⌝ }
+{
+    let first = fervolatro::fervolatro_length(book, account);
+    let second = fervolatro::fervolatro_length(other, account);
+    Both { first, second }
 }
 
 // The statements of one account from two books, also from two whose costs are made from the same dispatch rows.

@@ -16,7 +16,7 @@ use Rattle.book.specs.Book.{bookOf}
 use Rattle.book.specs.Table.{verdict}
 use Rattle.accounts.specs.Account.{publicOf}
 use Rattle.sharing.specs.Once.{has}
-use Rattle.statement.specs.Lent.{Outcome, refuses, gives, answerFor, leftIn}
+use Rattle.statement.specs.Lent.{Outcome, refuses, gives, lengthFor, answerFor, leftIn}
 use Rattle.statement.specs.declared.Written.the-variants as written
 use Rattle.statement.specs.Statement.{statementBytes}
 use Rattle.parsing.specs.Parsing.{isStatement, headingAt, lineAt, linesIn}
@@ -35,8 +35,8 @@ use Rattle.answers.specs.declared.HeadingAnswer.{HeadingAnswer}
 use Rattle.answers.specs.declared.EntryAnswer.{EntryAnswer}
 use Rattle.answers.specs.declared.PoolAnswer.{PoolAnswer}
 use Rattle.answers.specs.declared.CostAnswer.{CostAnswer}
-use Rattle.demands.specs.Demand1.{onABook, onABalance, onAStatement, onRewriting, onDispatchRows, OneOf, Answered, written, short, refused, CheckAnswered, PoolAnswered, HeadingAnswered, EntryAnswered, CostAnswered, EveryInputIsAnswered}
-use Rattle.demands.proofs.Numbers.{Among, Within, verdict-numbers, rows-numbers, outcome-numbers, statement-numbers, or-true}
+use Rattle.demands.specs.Demand1.{onABook, onALength, onABalance, onAStatement, onRewriting, onDispatchRows, OneOf, Answered, written, short, refused, CheckAnswered, LengthAnswered, PoolAnswered, HeadingAnswered, EntryAnswered, CostAnswered, EveryInputIsAnswered}
+use Rattle.demands.proofs.Numbers.{Among, Within, verdict-numbers, rows-numbers, outcome-numbers, statement-call-numbers, statement-numbers, or-true}
 
 -- ---- the calls that write
 
@@ -50,6 +50,11 @@ called numbers (gives xs) h k l r x c = by (leb (length xs) (length l)) refl (c 
     by false t a e = short xs refl (leb-false (length xs) (length l) t) k (record { answer = a; bytes = e })
 
 -- ---- the calls that only answer
+
+sized : (o : Outcome) → Within onALength o → (r : WrittenAnswer) → r ≡ writtenAnswer (lengthFor o) → LengthAnswered r
+unfolding lengthFor writtenAnswer
+sized (refuses number place) h r a = inr (rw a (h number place refl, refl))
+sized (gives xs) h r a = inl (rw a (refl, refl))
 
 checked : (b : List ℕ) (v : Verdict) → verdict b ≡ v → (r : VerdictAnswer) → r ≡ verdictAnswer v → CheckAnswered b r
 unfolding verdictAnswer
@@ -90,7 +95,8 @@ unfolding balanceOf balancesIn headingRead lineRead rewritten unpacked payment b
 every-input-is-answered =
     record {
       check = λ b. checked b (verdict b) refl;
-      statement = λ b account. called onAStatement (outcome b account) (outcome-numbers b account) refl;
+      statement = λ b account. called onAStatement (outcome b account) (statement-call-numbers b account) refl;
+      length = λ b account. sized (outcome b account) (outcome-numbers b account);
       balance = λ b number. pooled b (verdict b) refl (poolAt (poolsIn (publicOf (bookOf b))) number);
       header = λ s. header-answered (isStatement s) s;
       line = λ s index. line-answered (isStatement s) (leb (headingAt s .lines) index) s index;

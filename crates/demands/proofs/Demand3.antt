@@ -10,6 +10,8 @@ use Rattle.records.specs.declared.rows.Constraint.{Constraint}
 use Rattle.book.specs.Book.{bookOf}
 use Rattle.accounts.specs.Account.{Public, publicOf}
 use Rattle.settlement.specs.Settle.{outcome}
+use Rattle.answers.specs.declared.WrittenAnswer.{WrittenAnswer}
+use Rattle.demands.specs.Demand1.{LengthCall}
 use Rattle.demands.specs.Demand3.{Agree, NoNeighboursFigure, costless, costlessPublic, AgreeButForCosts, costsIn, Way, asPayment, asBaseCost, madeFrom, CostsMade, CostsArePublic}
 
 -- the outcome of one account is the same in both books
@@ -17,12 +19,16 @@ same-outcome : (b c : List ℕ) (account : ℕ) → Agree b c account → outcom
 unfolding outcome
 same-outcome b c account h = rw (h .first, h .second, h .public, h .own)
 
+same-length : (b c : List ℕ) (account : ℕ) (r s : WrittenAnswer) → Agree b c account → LengthCall b account r → LengthCall c account s → r ≡ s
+same-length b c account r s h p q = p ∙ rw (same-outcome b c account h) (sym q)
+
 pub no-neighbours-figure : NoNeighboursFigure
 no-neighbours-figure =
     record {
       same = λ b c account l r s x y h p q.
           let e = same-outcome b c account h in
           record { answer = p .answer ∙ rw e (sym (q .answer)); bytes = p .left ∙ rw e (sym (q .left)) };
+      length = λ b c account r s h p q. same-length b c account r s h p q;
     }
 
 -- ---- costs

@@ -22,7 +22,7 @@ use Rattle.lines.specs.Limit.{anyOver}
 use Rattle.parsing.specs.Parsing.{isStatement}
 use Rattle.reading.specs.Calls.{ifStatement}
 use Rattle.settlement.specs.Settle.{linesOf, settled, outcomeIf, outcome}
-use Rattle.demands.specs.Demand1.{onABook, onAStatement, onRewriting, onDispatchRows, OneOf}
+use Rattle.demands.specs.Demand1.{onABook, onALength, onAStatement, onRewriting, onDispatchRows, OneOf}
 
 -- a verdict, and an outcome, that refuses only by one of the numbers
 abbrev pub Among : List ℕ → Verdict → Type 0
@@ -113,23 +113,35 @@ within-cond : (numbers : List ℕ) (t : Bool) (k : ℕ) (o : Outcome) → OneOf 
 within-cond numbers true k o h w = within-one numbers k 0 h
 within-cond numbers false k o h w = w
 
--- a number of the first ten is one of a statement's
-more : (n : ℕ) → OneOf onABook n → OneOf onAStatement n
+-- a number of the first ten is one of a length's, and one of a length's is one of a statement's
+more : (n : ℕ) → OneOf onABook n → OneOf onALength n
 unfolding has
-more n h = or-true (eqb 11 n) _ (or-true (eqb 12 n) _ (or-true (eqb 13 n) _ h))
+more n h = or-true (eqb 11 n) _ (or-true (eqb 12 n) _ h)
 
-within-verdict : (v : Verdict) (o : Outcome) → Among onABook v → Within onAStatement o → Within onAStatement (outcomeIf v o)
+within-verdict : (v : Verdict) (o : Outcome) → Among onABook v → Within onALength o → Within onALength (outcomeIf v o)
 unfolding outcomeIf
 within-verdict Accepted o h w = w
-within-verdict (Refused k at₀) o h w = within-one onAStatement k at₀ (more k (h k at₀ refl))
+within-verdict (Refused k at₀) o h w = within-one onALength k at₀ (more k (h k at₀ refl))
 
 -- 1 to 10, then 11, 12
-pub outcome-numbers : (b : List ℕ) (account : ℕ) → Within onAStatement (outcome b account)
+pub outcome-numbers : (b : List ℕ) (account : ℕ) → Within onALength (outcome b account)
 unfolding outcome settled has
 outcome-numbers b account =
     within-verdict (verdict b) _ (verdict-numbers b)
-    (within-cond onAStatement (unknown (rowsOfAccount (bookOf b) account)) 11 _ refl
-    (within-cond onAStatement (anyOver (linesOf (publicOf (bookOf b)) (rowsOfAccount (bookOf b) account))) 12 _ refl (within-gives onAStatement _)))
+    (within-cond onALength (unknown (rowsOfAccount (bookOf b) account)) 11 _ refl
+    (within-cond onALength (anyOver (linesOf (publicOf (bookOf b)) (rowsOfAccount (bookOf b) account))) 12 _ refl (within-gives onALength _)))
+
+also-13 : (n : ℕ) → OneOf onALength n → OneOf onAStatement n
+unfolding has
+also-13 n h = by (eqb 11 n) (eqb 12 n) (eqb 13 n) _ h
+  where
+    by : (a b c d : Bool) → (a || (b || d)) ≡ true → (a || (b || (c || d))) ≡ true
+    by true b c d e = refl
+    by false true c d e = refl
+    by false false c d e = or-true c d e
+
+pub statement-call-numbers : (b : List ℕ) (account : ℕ) → Within onAStatement (outcome b account)
+statement-call-numbers b account number place e = also-13 number (outcome-numbers b account number place e)
 
 -- 14
 pub statement-numbers : (s xs : List ℕ) → Within onRewriting (ifStatement s xs)

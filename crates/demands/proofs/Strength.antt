@@ -1,6 +1,6 @@
 -- What the demands come to, said once more and without their definitions, so that a demand that says less is refused here. Assumes nothing.
 use Prim.Native.Nat.{ℕ, _+_, _*_, _≤_, _<_}
-use mathlib.Core.Path.{_≡_, refl, ap}
+use mathlib.Core.Path.{_≡_, refl, ap, _∙_}
 use mathlib.Core.Logic.{_⊎_, inl, inr}
 use mathlib.Core.Bool.{Bool, true, false, _||_}
 use mathlib.Core.List.{List, [], _∷_}
@@ -8,6 +8,7 @@ use native.Mathlib.Omega.{arith}
 use borrow.Author.Tests.{eqb-true}
 use lib.Dec.{eqb}
 use lib.IntN.{ℤ, natAbs, _+ℤ_}
+use lib.ListN.{length}
 use Rattle.sections.specs.declared.Verdict.the-variants.{Accepted}
 use Rattle.sections.proofs.Cases.{zero-one}
 use Rattle.ground.specs.Bytes.{i64At}
@@ -16,31 +17,37 @@ use Rattle.book.specs.Book.{bookOf}
 use Rattle.book.specs.Table.{verdict}
 use Rattle.accounts.specs.Account.{publicOf, rowsOfAccount}
 use Rattle.sharing.specs.Once.{has}
-use Rattle.statement.specs.Lent.{Outcome}
+use Rattle.statement.specs.Lent.{Outcome, lengthFor}
 use Rattle.reading.specs.Calls.{headingRead, lineRead}
 use Rattle.settlement.specs.Settle.{outcome}
-use Rattle.answers.specs.Answers.{headingAnswer, entryAnswer, Called}
+use Rattle.answers.specs.Answers.{writtenAnswer, headingAnswer, entryAnswer, Called}
 use Rattle.answers.specs.declared.WrittenAnswer.{WrittenAnswer}
 use Rattle.answers.specs.declared.EntryAnswer.{EntryAnswer}
 use Rattle.answers.specs.declared.PoolAnswer.{PoolAnswer}
 use Rattle.answers.specs.declared.CostAnswer.{CostAnswer}
-use Rattle.demands.specs.Demand1.{onABook, onDispatchRows, OneOf, Answered, written, short, refused, CostAnswered}
+use Rattle.demands.specs.Demand1.{onABook, onALength, onDispatchRows, OneOf, Answered, written, short, refused, LengthAnswered, CostAnswered}
 use Rattle.demands.specs.Demand2.{front, LinesAreTheLineCalls, PoolCloses}
 use Rattle.demands.specs.Demand3.{costlessPublic, costsIn, Way, CostsMade}
+use Rattle.demands.specs.Length.{AskedFirst}
+use Rattle.demands.proofs.Length.{length-is-the-statements}
 use Rattle.demands.proofs.Demand3.{no-neighbours-figure, costs-are-public}
 use Rattle.demands.proofs.Example.{bookA, bookB, two-books-agree}
 
 -- ---- demand 1
 
--- what holds of each number of a list holds of one of them
+-- what holds of a number, and of those of a list, holds of one of them all
+one-more : (P : ℕ → Type 0) (x : ℕ) (l : List ℕ) → P x → ((n : ℕ) → OneOf l n → P n) → (n : ℕ) → OneOf (x ∷ l) n → P n
+unfolding has
+one-more P x l h rest n e = by (eqb x n) refl e
+  where
+    by : (t : Bool) → eqb x n ≡ t → (t || has n l) ≡ true → P n
+    by true t d = let same : x ≡ n = eqb-true x n t in rw (← same) h
+    by false t d = rest n d
+
 one-of : (P : ℕ → Type 0) (l : List ℕ) → Each P l → (n : ℕ) → OneOf l n → P n
 unfolding has
 one-of P [] h n e = absurd (zero-one cc)
-one-of P (x ∷ l) h n e = by (eqb x n) refl e (one-of P l (h .1) n)
-  where
-    by : (t : Bool) → eqb x n ≡ t → (t || has n l) ≡ true → (OneOf l n → P n) → P n
-    by true t d rest = let same : x ≡ n = eqb-true x n t in rw (← same) (h .0)
-    by false t d rest = rest d
+one-of P (x ∷ l) h n e = one-more P x l (h .0) (one-of P l (h .1)) n e
 
 -- a call refuses by the numbers of its table and no others: 0 is none of them, a check gives 1 to 10, a statement 1 to 13, a balance 15 besides
 abbrev From1To : ℕ → ℕ → Type 0
@@ -80,6 +87,16 @@ book-numbers =
       ),
     )
 
+-- a length is refused by 1 to 12, and then none is told
+pub length-numbers : (n : ℕ) → OneOf onALength n → From1To 12 n
+length-numbers =
+    one-more (From1To 12) 11 _ (omega arith, omega arith)
+    (one-more (From1To 12) 12 _ (omega arith, omega arith) (λ n h. let b = book-numbers n h in (b .0, omega (arith, b .1))))
+
+pub refused-without-length : (r : WrittenAnswer) → LengthAnswered r → (r .refusal ≡ 0 → ⊥) → From1To 12 (r .refusal) × (r .length ≡ 0)
+refused-without-length r (inl h) z = absurd (z (h .0))
+refused-without-length r (inr h) z = (length-numbers (r .refusal) (h .0), ap (λ (w : WrittenAnswer). w .length) (h .1))
+
 -- a refused call leaves every byte
 pub refused-and-left : (numbers : List ℕ) (o : Outcome) (l : List ℕ) (r : WrittenAnswer) (x : List ℕ) → Answered numbers o l r x → (r .refusal ≡ 0 → ⊥) → x ≡ l
 refused-and-left numbers o l r x (written xs e g) z = absurd (z (ap (λ (w : WrittenAnswer). w .refusal) (g .answer)))
@@ -93,6 +110,32 @@ rows-number = one-of (λ n. n ≡ 16) onDispatchRows (refl, tt)
 pub refused-without-amount : (r : CostAnswer) → CostAnswered r → (r .refusal ≡ 0 → ⊥) → (r .refusal ≡ 16) × (r .amount ≡ 0)
 refused-without-amount r (inl h) z = absurd (z (h .0))
 refused-without-amount r (inr h) z = (rows-number (r .refusal) (h .0), ap (λ (a : CostAnswer). a .amount) (h .1))
+
+-- ---- the length, asked for before writing
+
+module _ (b : List ℕ) (account : ℕ) (l : List ℕ) (r s : WrittenAnswer) (x : List ℕ) (p : r ≡ writtenAnswer (lengthFor (outcome b account))) (q : Called (outcome b account) l s x) where
+  asked : AskedFirst l r s x
+  asked = length-is-the-statements .calls b account l r s x p q
+
+  pub length-is-of-what-is-written : s .refusal ≡ 0 → r .length ≡ s .length
+  length-is-of-what-is-written z = ap (λ (w : WrittenAnswer). w .length) (asked .same z)
+
+  pub just-room-is-never-refused : r .refusal ≡ 0 → length l ≡ r .length → s .refusal ≡ 0
+  just-room-is-never-refused z h = ap (λ (w : WrittenAnswer). w .refusal) (asked .enough z (omega (arith, h))) ∙ z
+
+  pub one-byte-less-is-13 : r .refusal ≡ 0 → length l + 1 ≡ r .length → (s .refusal ≡ 13) × (x ≡ l)
+  one-byte-less-is-13 z h =
+      let short = asked .short z (omega (arith, h)) in
+      (ap (λ (w : WrittenAnswer). w .refusal) (short .answer), short .bytes)
+
+  pub same-number-and-place : (r .refusal ≡ 0 → ⊥) → (s .refusal ≡ r .refusal) × (s .place ≡ r .place) × (x ≡ l)
+  same-number-and-place z =
+      let refused = asked .refused z in
+      (ap (λ (w : WrittenAnswer). w .refusal) (refused .answer), ap (λ (w : WrittenAnswer). w .place) (refused .answer), refused .bytes)
+
+  -- and back: what the writing call refuses by another number than 13, the length call refuses alike
+  pub same-number-and-place-back : (s .refusal ≡ 0 → ⊥) → (s .refusal ≡ 13 → ⊥) → r ≡ s
+  same-number-and-place-back z k = asked .back z k
 
 -- ---- demand 2
 
@@ -109,6 +152,10 @@ each-amount s r x c i h = ap (λ (e : EntryAnswer). e .amount) (c .lines i h)
 -- the two books of the example
 pub the-example : (l : List ℕ) (r s : WrittenAnswer) (x y : List ℕ) → Called (outcome bookA 7) l r x → Called (outcome bookB 7) l s y → (r ≡ s) × (x ≡ y)
 the-example l r s x y p q = let same = no-neighbours-figure .same bookA bookB 7 l r s x y two-books-agree p q in (same .answer, same .bytes)
+
+-- and their lengths
+pub the-example-s-lengths : (r s : WrittenAnswer) → r ≡ writtenAnswer (lengthFor (outcome bookA 7)) → s ≡ writtenAnswer (lengthFor (outcome bookB 7)) → r ≡ s
+the-example-s-lengths r s p q = no-neighbours-figure .length bookA bookB 7 r s two-books-agree p q
 
 -- books that agree in all but their costs, and have these from the same dispatch rows
 pub costs-from-rows : (rows : List ℕ) (way : ℕ → Way) (b c : List ℕ) (account : ℕ) (l : List ℕ) (r s : WrittenAnswer) (x y : List ℕ) → verdict b ≡ Accepted → verdict c ≡ Accepted → costlessPublic (publicOf (bookOf b)) ≡ costlessPublic (publicOf (bookOf c)) → rowsOfAccount (bookOf b) account ≡ rowsOfAccount (bookOf c) account → CostsMade rows way b → CostsMade rows way c → Called (outcome b account) l r x → Called (outcome c account) l s y → (r ≡ s) × (x ≡ y)

@@ -13,13 +13,13 @@ use Rattle.sections.specs.declared.Verdict.the-variants.{Accepted, Refused}
 use Rattle.dispatch.specs.Dispatch.{payment, baseCost}
 use Rattle.book.specs.Table.{verdict}
 use Rattle.sharing.specs.Once.{has}
-use Rattle.statement.specs.Lent.{Outcome, refuses, gives}
+use Rattle.statement.specs.Lent.{Outcome, refuses, gives, lengthFor}
 use Rattle.reading.specs.Calls.{headingRead, lineRead}
 use Rattle.reading.specs.Rewriting.{rewritten}
 use Rattle.unpacking.specs.Unpacking.{unpacked}
 use Rattle.settlement.specs.Settle.{outcome}
 use Rattle.balance.specs.Balance.{balanceOf}
-use Rattle.answers.specs.Answers.{verdictAnswer, headingAnswer, entryAnswer, poolAnswer, costAnswer, Called}
+use Rattle.answers.specs.Answers.{verdictAnswer, writtenAnswer, headingAnswer, entryAnswer, poolAnswer, costAnswer, Called}
 use Rattle.answers.specs.declared.VerdictAnswer.{VerdictAnswer}
 use Rattle.answers.specs.declared.WrittenAnswer.{WrittenAnswer}
 use Rattle.answers.specs.declared.HeadingAnswer.{HeadingAnswer}
@@ -36,6 +36,10 @@ onABook = 1 ∷ 2 ∷ 3 ∷ 4 ∷ 5 ∷ 6 ∷ 7 ∷ 8 ∷ 9 ∷ 10 ∷ []
 -- "A statement then looks for 11, 12, 13, a balance for 15."
 abbrev pub onAStatement : List ℕ
 onAStatement = 11 ∷ 12 ∷ 13 ∷ onABook
+
+-- 02, Req 02: "the first gives 1 to 12, the second 1 to 13"
+abbrev pub onALength : List ℕ
+onALength = 11 ∷ 12 ∷ onABook
 
 abbrev pub onABalance : List ℕ
 onABalance = 15 ∷ onABook
@@ -84,6 +88,11 @@ CheckAnswered b r =
     ((verdict b ≡ Accepted) × (r ≡ record { refusal = 0; place = 0 }))
     ⊎ ((verdict b ≡ Refused (r .refusal) (r .place)) × OneOf onABook (r .refusal))
 
+abbrev pub LengthAnswered : WrittenAnswer → Type 0
+LengthAnswered r =
+    ((r .refusal ≡ 0) × (r .place ≡ 0))
+    ⊎ (OneOf onALength (r .refusal) × (r ≡ record { refusal = r .refusal; place = r .place; length = 0 }))
+
 abbrev pub PoolAnswered : PoolAnswer → Type 0
 PoolAnswered r =
     ((r .refusal ≡ 0) × (r .place ≡ 0))
@@ -104,7 +113,11 @@ CostAnswered r =
     ((r .refusal ≡ 0) × (r .place ≡ 0))
     ⊎ (OneOf onDispatchRows (r .refusal) × (r ≡ record { refusal = r .refusal; place = r .place; amount = 0 }))
 
--- ---- what the writing calls promise
+-- ---- what the writing calls promise, and the one that is asked before
+
+-- the length call on book b: r is what it answers
+abbrev pub LengthCall : List ℕ → ℕ → WrittenAnswer → Type 0
+LengthCall b account r = r ≡ writtenAnswer (lengthFor (outcome b account))
 
 -- the statement call on book b, with a buffer that held l: r is what it answers, x what the buffer holds then
 abbrev pub StatementCall : List ℕ → ℕ → List ℕ → WrittenAnswer → List ℕ → Type 0
@@ -124,6 +137,7 @@ pub record EveryInputIsAnswered : Type 0 where
   pub check : (b : List ℕ) (r : VerdictAnswer) → r ≡ verdictAnswer (verdict b) → CheckAnswered b r
   pub statement : (b : List ℕ) (account : ℕ) (l : List ℕ) (r : WrittenAnswer) (x : List ℕ) → StatementCall b account l r x
       → Answered onAStatement (outcome b account) l r x
+  pub length : (b : List ℕ) (account : ℕ) (r : WrittenAnswer) → LengthCall b account r → LengthAnswered r
   pub balance : (b : List ℕ) (number : ℕ) (r : PoolAnswer) → r ≡ poolAnswer (balanceOf b number) → PoolAnswered r
   pub header : (s : List ℕ) (r : HeadingAnswer) → r ≡ headingAnswer (headingRead s) → HeadingAnswered r
   pub line : (s : List ℕ) (index : ℕ) (r : EntryAnswer) → r ≡ entryAnswer (lineRead s index) → EntryAnswered r

@@ -14,7 +14,7 @@ use Rattle.book.specs.Book.{bookOf}
 use Rattle.book.specs.Table.{verdict}
 use Rattle.accounts.specs.Account.{Public, publicOf, rowsOfAccount}
 use Rattle.answers.specs.declared.WrittenAnswer.{WrittenAnswer}
-use Rattle.demands.specs.Demand1.{StatementCall}
+use Rattle.demands.specs.Demand1.{LengthCall, StatementCall}
 
 -- two accepted books b and c agree: `publicOf` is date, interval, run, region totals, constraints and contracts, `rowsOfAccount` the
 -- account's own energy and unit rows
@@ -29,11 +29,13 @@ pub record Same (r s : WrittenAnswer) (x y : List ℕ) : Type 0 where
   pub answer : r ≡ s
   pub bytes : x ≡ y
 
--- the demand, of what the statement call promises: r and x are what a call on the first book answers and leaves in a buffer that held l, s
+-- the demand, of what the statement call and the length call promise: r and x are what a call on the first book answers and leaves in a buffer that held l, s
 -- and y what a call on the second does
 pub record NoNeighboursFigure : Type 0 where
   pub same : (b c : List ℕ) (account : ℕ) (l : List ℕ) (r s : WrittenAnswer) (x y : List ℕ) → Agree b c account
       → StatementCall b account l r x → StatementCall c account l s y → Same r s x y
+  -- 02, Req 02: "Demand 3 covers the length": the same length, and the same refusals to tell it
+  pub length : (b c : List ℕ) (account : ℕ) (r s : WrittenAnswer) → Agree b c account → LengthCall b account r → LengthCall c account s → r ≡ s
 
 -- ---- costs. 02, Req 01: "Demands 2 and 3 read costs as public whichever way they came." A constraint's cost is one of its fields, and so it is
 -- ---- part of the public part already; a statement depends on it through that field and on nothing that it was made from

@@ -1,13 +1,14 @@
 // The library as C and Rust see it (include/fervolatro.h): numbers and byte slices in, plain structs out. Nothing is decided here.
 ghost use mathlib.Core.Path.{_≡_};
 ghost use Rattle.book.specs.Table.{verdict};
+ghost use Rattle.statement.specs.Lent.{lengthFor};
 ghost use Rattle.reading.specs.Calls.{headingRead, lineRead};
 ghost use Rattle.reading.specs.Rewriting.{rewritten};
 ghost use Rattle.unpacking.specs.Unpacking.{unpacked};
 ghost use Rattle.settlement.specs.Settle.{outcome};
 ghost use Rattle.balance.specs.Balance.{balanceOf};
 ghost use Rattle.dispatch.specs.Dispatch.{payment, baseCost};
-ghost use Rattle.answers.specs.Answers.{verdictAnswer, headingAnswer, entryAnswer, poolAnswer, costAnswer, Called};
+ghost use Rattle.answers.specs.Answers.{verdictAnswer, writtenAnswer, headingAnswer, entryAnswer, poolAnswer, costAnswer, Called};
 use answers::CostAnswer;
 use answers::EntryAnswer;
 use answers::HeadingAnswer;
@@ -21,6 +22,14 @@ pub extern "C" fn fervolatro_check(book: &[u8]) -> VerdictAnswer
     ensures { λ r. ⌜ r ≡ verdictAnswer (verdict (now (book .entry))) ⌝ }
 {
     answers::answer(verdict::check(book))
+}
+
+// How long the statement of an account is.
+#[no_mangle]
+pub extern "C" fn fervolatro_length(book: &[u8], account: u32) -> WrittenAnswer
+    ensures { λ r. ⌜ r ≡ writtenAnswer (lengthFor (outcome (now (book .entry)) account)) ⌝ }
+{
+    answers::written(settlement::length(book, account))
 }
 
 // The statement of an account, written at the front of the buffer, or the refusal that leaves every byte of it.

@@ -1,4 +1,4 @@
--- Each way in which the call ends, over a book's own rows. Assumes nothing.
+-- Each way in which the two calls end, over a book's own rows. Assumes nothing.
 use Prim.Native.Nat.{ℕ, _+_, _*_, _≤_, _<_}
 use mathlib.Core.Path.{_≡_, refl, sym, ap, subst, _∙_}
 use mathlib.Core.Bool.{Bool, true, false, not, _&&_, _||_}
@@ -9,82 +9,41 @@ use native.Mathlib.Omega.{arith}
 use Rattle.ground.specs.Inner.Put.{Wrote}
 use Rattle.sections.specs.declared.Verdict.{Verdict}
 use Rattle.sections.specs.declared.Verdict.the-variants.{Accepted, Refused}
-use Rattle.totals.specs.Inner.Totals.{entryOf}
 use Rattle.totals.specs.declared.entries.Totals.{Totals}
 use Rattle.book.specs.Header.{headerOf}
 use Rattle.book.specs.declared.header.Header.{Header}
 use Rattle.book.specs.Book.{Book, bookIn}
 use Rattle.book.specs.Inner.Facts.{Laid}
 use Rattle.book.specs.Table.{verdict}
-use Rattle.book.specs.Inner.Accepted.{AtMostEntry, Promise, AcceptedBook}
+use Rattle.book.specs.Inner.Accepted.{Promise, AcceptedBook}
 use Rattle.book.proofs.Promise.{accepted}
 use Rattle.accounts.specs.Rows.{rowsOf, keep, none}
 use Rattle.accounts.specs.Account.{publicOf, rowsOfAccount, unknown}
 use Rattle.accounts.specs.Inner.Held.{HeldIs}
 use Rattle.accounts.specs.declared.Held.{Held}
-use Rattle.accounts.proofs.Own.{own-within, held-own, held-unknown}
-use Rattle.statement.specs.Lent.{Lent}
+use Rattle.accounts.proofs.Own.{held-unknown}
+use Rattle.statement.specs.Lent.{Outcome, refuses, gives, lengthFor, Lent}
 use Rattle.statement.specs.declared.Written.{Written}
 use Rattle.statement.specs.declared.Written.the-variants.{Length}
 use Rattle.statement.specs.declared.Written.the-variants as written
-use Rattle.statement.proofs.Lent.{lent-refused}
+use Rattle.statement.proofs.Lent.{lent-refused, lent-short, lent-written, length-refused, length-given, refused-length, Long, long-given}
 use Rattle.statement.proofs.Lines.{statement-length}
 use Rattle.lines.specs.Limit.{anyOver}
-use Rattle.settlement.specs.Settle.{linesOf, statementOf, settled, outcomeIf, outcome}
-use Rattle.lines.specs.Inner.Walks.{bookLines}
+use Rattle.lines.specs.Inner.Walks.{bookLines, Walkable}
 use Rattle.limit.specs.Inner.Limits.{bookOver}
 use Rattle.limit.proofs.UnderLimit.{over-is}
 use Rattle.whole.specs.Inner.Whole.{Fits, headingIn, wholeOf}
-use Rattle.whole.proofs.Given.{ready-of, payable-of}
-use Rattle.whole.proofs.Lengths.{few-of}
-use Rattle.settlement.specs.Inner.Owned.{Owned}
-use Rattle.settlement.proofs.Settled.{settled-unknown, settled-over, lent-short, lent-written}
-use Rattle.settlement.proofs.Link.{lines-link}
+use Rattle.settlement.specs.Settle.{linesOf, statementOf, settled, outcomeIf, outcome}
+use Rattle.settlement.proofs.Settled.{settled-unknown, settled-over, settled-gives, statement-long, Settled, settled-back}
+use Rattle.settlement.proofs.Owned.{Owned, own-of}
 
--- ---- the tests that come before the first byte is written
-
-module _ (B : Book) (account : ℕ) (own : Totals) (p : Promise B) (o : Owned B account own) (l : List ℕ) {over : Bool} (e : over ≡ bookOver B) where
-  over-told : over ≡ anyOver (linesOf (publicOf B) (rowsOfAccount B account))
-  over-told = e ∙ over-is B p own (o .walk) account ∙ ap anyOver (sym (o .lines))
-
-  count-is : length (bookLines B account own) ≡ length (linesOf (publicOf B) (rowsOfAccount B account))
-  count-is = ap length (sym (o .lines))
-
-  pub end-12 : over ≡ true → Lent (settled account (publicOf B) (rowsOfAccount B account)) l (written.Refused 12 0) l
-  end-12 t = lent-refused 12 0 _ l (settled-over account (publicOf B) (rowsOfAccount B account) (o .known) (sym over-told ∙ t))
-
-  module _ (t : over ≡ false) {n : ℕ} (s : (own : Totals) → n ≡ 24 + length (bookLines B account own) * 24) where
-    pub end-13 : length l < n → Lent (settled account (publicOf B) (rowsOfAccount B account)) l (written.Refused 13 0) l
-    end-13 q =
-        lent-short account (publicOf B) (rowsOfAccount B account) (o .known) (sym over-told ∙ t) l (length (bookLines B account own)) count-is
-        (omega (arith, s own))
-
-    pub fits-in : n ≤ length l → Fits (bookLines B account own) (length l)
-    fits-in q = record { few = o .few; room = omega (arith, s own) }
-
-    pub end-written : {b : List ℕ} {m : ℕ} → n ≤ length l → Wrote l 0 (wholeOf account B own) b m → Lent (settled account (publicOf B) (rowsOfAccount B account)) l (Length m) b
-    unfolding statementOf wholeOf publicOf
-    end-written {b} {m} q w =
-        let end : m ≡ 24 + length (bookLines B account own) * 24 = omega (arith, w .next, statement-length (headingIn account B (length (bookLines B account own))) (bookLines B account own)) in
-        rw end
-        (lent-written account (publicOf B) (rowsOfAccount B account) (o .known) (sym over-told ∙ t) l (length (bookLines B account own)) count-is (fits-in q .room)
-        (rw (sym (o .lines)) at (w .bytes)))
-
--- ---- once the account's own rows are read
+-- what the definition gives for an account of a book
+abbrev of : Book → ℕ → Outcome
+of B account = settled account (publicOf B) (rowsOfAccount B account)
 
 module _ (B : Book) (account : ℕ) (p : Promise B) {held : Held} (f : HeldIs (B .energy) (B .header .energies) account held) where
-  pub own-of : unknown (rowsOfAccount B account) ≡ false → Owned B account (held .own)
-  own-of k =
-      let same = held-own B f in
-      let w : (g : ℕ) → g < 5 → AtMostEntry (B .entry g) (entryOf (held .own) g) = λ g h. subst (AtMostEntry (B .entry g)) (sym (same g h)) (own-within p account g h) in
-      record {
-        known = k;
-        lines = lines-link B account (held .own) same;
-        few = few-of B account p (held .own);
-        walk = record { ready = ready-of B p (held .own) w; payable = payable-of B p (held .own) w };
-      }
+  -- ---- the length: 11, 12, and the lines counted
 
-  -- where it is known whether a row names it
   module _ {known : Bool} (k : known ≡ (held .any || not (none (keep (λ r. eqb (r .account) account) (rowsOf (B .unit) (B .header .units)))))) where
     unknown-is : unknown (rowsOfAccount B account) ≡ not known
     unknown-is = sym (held-unknown B f refl) ∙ neither (held .any) _ ∙ ap not (sym k)
@@ -95,29 +54,88 @@ module _ (B : Book) (account : ℕ) (p : Promise B) {held : Held} (f : HeldIs (B
         neither false true = refl
         neither false false = refl
 
-    pub owned-known : not known ≡ false → Owned B account (held .own)
-    owned-known t = own-of (unknown-is ∙ t)
+    pub size-11 : not known ≡ true → written.Refused 11 0 ≡ lengthFor (of B account)
+    size-11 t = length-refused 11 0 _ (settled-unknown account (publicOf B) (rowsOfAccount B account) (unknown-is ∙ t))
 
-    pub end-11 : (l : List ℕ) → not known ≡ true → Lent (settled account (publicOf B) (rowsOfAccount B account)) l (written.Refused 11 0) l
-    end-11 l t = lent-refused 11 0 _ l (settled-unknown account (publicOf B) (rowsOfAccount B account) (unknown-is ∙ t))
+    module _ (t : not known ≡ false) {over : Bool} (e : over ≡ bookOver B) where
+      owned : Owned B account (held .own)
+      owned = own-of B account p f (unknown-is ∙ t)
+
+      over-told : over ≡ anyOver (linesOf (publicOf B) (rowsOfAccount B account))
+      over-told = e ∙ over-is B p (held .own) (owned .walk) account ∙ ap anyOver (sym (owned .lines))
+
+      pub size-12 : over ≡ true → written.Refused 12 0 ≡ lengthFor (of B account)
+      size-12 o = length-refused 12 0 _ (settled-over account (publicOf B) (rowsOfAccount B account) (owned .known) (sym over-told ∙ o))
+
+      pub size-counted : over ≡ false → {n : ℕ} → ((own : Totals) → n ≡ 24 + length (bookLines B account own) * 24) → Length n ≡ lengthFor (of B account)
+      size-counted o {n} c =
+          let long = statement-long account (publicOf B) (rowsOfAccount B account) in
+          length-given _ _ (settled-gives account (publicOf B) (rowsOfAccount B account) (owned .known) (sym over-told ∙ o)) n
+          (omega (arith, c (held .own), long, ap length (owned .lines)))
+
+  -- ---- the writing, once the length is told
+
+  module _ (l : List ℕ) {w : Written} (q : w ≡ lengthFor (of B account)) where
+    pub end-refused : {number place : ℕ} → w ≡ written.Refused number place → Lent (of B account) l (written.Refused number place) l
+    end-refused e = lent-refused _ _ _ l (refused-length _ _ _ (sym e ∙ q))
+
+    module _ {n : ℕ} (e : w ≡ Length n) where
+      told : Long (of B account) n
+      told = long-given _ n (sym e ∙ q)
+
+      passed : Settled account (publicOf B) (rowsOfAccount B account) (told .bytes)
+      passed = settled-back account (publicOf B) (rowsOfAccount B account) (told .bytes) (told .given)
+
+      owned-then : Owned B account (held .own)
+      owned-then = own-of B account p f (passed .known)
+
+      -- the bytes are those that the walk writes
+      bytes-are : told .bytes ≡ wholeOf account B (held .own)
+      unfolding statementOf wholeOf publicOf
+      bytes-are = passed .bytes ∙ rw (owned-then .lines)
+
+      long-is : n ≡ 24 + 24 * length (bookLines B account (held .own))
+      unfolding wholeOf
+      long-is = told .long ∙ ap length bytes-are ∙ statement-length (headingIn account B (length (bookLines B account (held .own)))) (bookLines B account (held .own))
+
+      pub end-13 : length l < n → Lent (of B account) l (written.Refused 13 0) l
+      end-13 h = lent-short _ (told .bytes) (told .given) l (omega (arith, told .long))
+
+      pub walk-of : Walkable B (held .own)
+      walk-of = owned-then .walk
+
+      pub fits-in : n ≤ length l → Fits (bookLines B account (held .own)) (length l)
+      fits-in h = record { few = owned-then .few; room = omega (arith, long-is) }
+
+      pub end-written : n ≤ length l → {b : List ℕ} {m : ℕ} → Wrote l 0 (wholeOf account B (held .own)) b m → Lent (of B account) l (Length m) b
+      end-written h w =
+          lent-written _ (wholeOf account B (held .own)) (told .given ∙ ap gives bytes-are) l _ (omega (arith, w .next))
+          (omega (arith, told .long, ap length bytes-are)) (w .bytes)
 
 -- ---- the book's verdict
 
-module _ (b : List ℕ) (account : ℕ) {v : Verdict} (q : v ≡ verdict b) where
-  pub end-refused : (l : List ℕ) {number place : ℕ} → v ≡ Refused number place → Lent (outcome b account) l (written.Refused number place) l
-  unfolding outcome outcomeIf
-  end-refused l e = lent-refused _ _ _ l (rw (sym q ∙ e))
+pub outcome-refused : (b : List ℕ) (account : ℕ) {number place : ℕ} → verdict b ≡ Refused number place → outcome b account ≡ refuses number place
+unfolding outcome outcomeIf
+outcome-refused b account e = rw e
 
+module _ (b : List ℕ) (account : ℕ) {v : Verdict} (q : v ≡ verdict b) where
   module _ (e : v ≡ Accepted) where
     pub given : AcceptedBook b
     given = accepted b (sym q ∙ e)
 
-    pub laid-in : {h : Header} → h ≡ headerOf b → Laid b h
-    laid-in i = rw i (record { few = given .promise .sound .few; long = given .long })
+    module _ {h : Header} (i : h ≡ headerOf b) where
+      pub laid-in : Laid b h
+      laid-in = rw i (record { few = given .promise .sound .few; long = given .long })
 
-    pub promised-in : {h : Header} → h ≡ headerOf b → Promise (bookIn b h)
-    promised-in i = rw i (given .promise)
+      pub promised-in : Promise (bookIn b h)
+      promised-in = rw i (given .promise)
 
-    pub end-settled : {h : Header} {l : List ℕ} {r : Written} {d : List ℕ} → h ≡ headerOf b → Lent (settled account (publicOf (bookIn b h)) (rowsOfAccount (bookIn b h) account)) l r d → Lent (outcome b account) l r d
-    unfolding outcome outcomeIf
-    end-settled i h = rw (sym q ∙ e) (rw i at h)
+      outcome-settled : of (bookIn b h) account ≡ outcome b account
+      unfolding outcome outcomeIf
+      outcome-settled = rw (sym q ∙ e, i)
+
+      pub size-settled : {r : Written} → r ≡ lengthFor (of (bookIn b h) account) → r ≡ lengthFor (outcome b account)
+      size-settled w = w ∙ ap lengthFor outcome-settled
+
+      pub end-settled : {l : List ℕ} {r : Written} {d : List ℕ} → Lent (of (bookIn b h) account) l r d → Lent (outcome b account) l r d
+      end-settled {l} {r} {d} w = subst (λ (o : Outcome). Lent o l r d) outcome-settled w

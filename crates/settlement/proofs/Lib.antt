@@ -1,4 +1,5 @@
 pub mod Settled
 pub mod Link
+pub mod Owned
 pub mod Ends
 pub mod OneLine

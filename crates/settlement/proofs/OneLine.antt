@@ -10,7 +10,7 @@ use Rattle.lines.specs.Inner.Walks.{bookLines}
 use Rattle.lookup.specs.declared.Numbered.{Numbered}
 use Rattle.lookup.specs.ByNumber.{numberedIn}
 use Rattle.settlement.specs.Settle.{linesOf}
-use Rattle.settlement.specs.Inner.Owned.{Owned}
+use Rattle.settlement.proofs.Owned.{Owned}
 
 -- what `numbered::line_at` answers is the line of that number in the statement
 pub line-of-the-statement : (B : Book) (account : ℕ) (own : Totals) → Owned B account own → (number : ℕ) {x : Numbered} → x ≡ numberedIn (bookLines B account own) number → x ≡ numberedIn (linesOf (publicOf B) (rowsOfAccount B account)) number

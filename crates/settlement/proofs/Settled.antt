@@ -1,20 +1,15 @@
--- Each way in which the call ends, by the definition. Assumes nothing.
-use Prim.Native.Nat.{ℕ, _+_, _*_, _≤_, _<_}
-use mathlib.Core.Path.{_≡_}
-use mathlib.Core.Bool.{true, false}
+-- Each way in which an accepted book is settled, by the definition. Assumes nothing.
+use Prim.Native.Nat.{ℕ, _+_, _*_}
+use mathlib.Core.Path.{_≡_, refl}
+use mathlib.Core.Bool.{Bool, true, false, cond}
 use mathlib.Core.List.{List}
 use lib.ListN.{length}
-use native.Mathlib.Omega.{arith}
-use Rattle.ground.specs.Put.{put}
+use Rattle.sections.proofs.Cases.{zero-one}
 use Rattle.accounts.specs.Account.{Public, Rows, unknown}
-use Rattle.statement.specs.Lent.{refuses, gives, Lent}
-use Rattle.statement.specs.declared.Written.the-variants.{Length, Refused}
+use Rattle.statement.specs.Lent.{Outcome, refuses, gives}
 use Rattle.statement.proofs.Lines.{statement-length}
-use Rattle.statement.proofs.Lent as lent
 use Rattle.lines.specs.Limit.{anyOver}
 use Rattle.settlement.specs.Settle.{linesOf, statementOf, settled}
-
--- ---- the ends of the call; o is what the definition gives
 
 module _ (account : ℕ) (p : Public) (r : Rows) where
   pub settled-unknown : unknown r ≡ true → settled account p r ≡ refuses 11 0
@@ -26,19 +21,33 @@ module _ (account : ℕ) (p : Public) (r : Rows) where
     unfolding settled
     settled-over e = rw (k, e)
 
-    module _ (v : anyOver (linesOf p r) ≡ false) where
-      settled-gives : settled account p r ≡ gives (statementOf account p r)
-      unfolding settled
-      settled-gives = rw (k, v)
+    pub settled-gives : anyOver (linesOf p r) ≡ false → settled account p r ≡ gives (statementOf account p r)
+    unfolding settled
+    settled-gives e = rw (k, e)
 
-      long : length (statementOf account p r) ≡ 24 + 24 * length (linesOf p r)
-      unfolding statementOf
-      long = statement-length _ (linesOf p r)
+  -- "then answers 24 + 24 x lines"
+  pub statement-long : length (statementOf account p r) ≡ 24 + 24 * length (linesOf p r)
+  unfolding statementOf
+  statement-long = statement-length _ (linesOf p r)
 
-      module _ (l : List ℕ) (n : ℕ) (c : n ≡ length (linesOf p r)) where
-        pub lent-short : length l < 24 + n * 24 → Lent (settled account p r) l (Refused 13 0) l
-        lent-short h = lent.lent-short (settled account p r) (statementOf account p r) settled-gives l (omega (arith, long))
+-- ---- and back: where bytes are given, 11 and 12 are not, and they are the statement's
 
-        pub lent-written : {b : List ℕ} → 24 + n * 24 ≤ length l → b ≡ put l 0 (statementOf account p r) → Lent (settled account p r) l (Length (24 + n * 24)) b
-        lent-written h e =
-            lent.lent-written (settled account p r) (statementOf account p r) settled-gives l (24 + n * 24) (omega (arith, long)) (omega (arith, long)) e
+pub apart : (number place : ℕ) (xs : List ℕ) → refuses number place ≡ gives xs → ⊥
+apart number place xs e = zero-one cc
+
+check-gives : (t : Bool) (number : ℕ) (o : Outcome) (xs : List ℕ) → cond t (refuses number 0) o ≡ gives xs → (t ≡ false) × (o ≡ gives xs)
+check-gives true number o xs e = absurd (apart number 0 xs e)
+check-gives false number o xs e = (refl, e)
+
+pub record Settled (account : ℕ) (p : Public) (r : Rows) (xs : List ℕ) : Type 0 where
+  pub known : unknown r ≡ false
+  pub under : anyOver (linesOf p r) ≡ false
+  pub bytes : xs ≡ statementOf account p r
+
+pub settled-back : (account : ℕ) (p : Public) (r : Rows) (xs : List ℕ) → settled account p r ≡ gives xs → Settled account p r xs
+unfolding settled
+settled-back account p r xs e =
+    let k = check-gives (unknown r) 11 (cond (anyOver (linesOf p r)) (refuses 12 0) (gives (statementOf account p r))) xs e in
+    let u = check-gives (anyOver (linesOf p r)) 12 (gives (statementOf account p r)) xs (k .1) in
+    let last : gives (statementOf account p r) ≡ gives xs = u .1 in
+    record { known = k .0; under = u .0; bytes = cc }

@@ -1,4 +1,5 @@
--- Each way in which a call that writes a statement ends, and what an answered length says; o is what the definition gives. Assumes nothing.
+-- Each way in which a call that writes a statement ends, or one that tells its length, and what an answered length says; o is what the definition
+-- gives. Assumes nothing.
 use Prim.Native.Nat.{ℕ, _≤_, _<_}
 use mathlib.Core.Path.{_≡_, refl, sym, ap}
 use mathlib.Core.Bool.{Bool, true, false, cond}
@@ -11,7 +12,7 @@ use Rattle.sections.proofs.Cases.{zero-one}
 use Rattle.ground.specs.Bytes.{part}
 use Rattle.ground.specs.Put.{put}
 use Rattle.ground.proofs.Put.{put-there}
-use Rattle.statement.specs.Lent.{Outcome, refuses, gives, answerFor, leftIn, Lent}
+use Rattle.statement.specs.Lent.{Outcome, refuses, gives, lengthFor, answerFor, leftIn, Lent}
 use Rattle.statement.specs.declared.Written.{Written}
 use Rattle.statement.specs.declared.Written.the-variants.{Length, Refused}
 
@@ -47,3 +48,29 @@ lent-front (gives xs) l n b h = by (leb (length xs) (length l)) refl (h .answer)
         let same : n ≡ length xs = cc in
         ap gives (rw (f, same) (sym (put-there l 0 xs (omega (arith, leb-true (length xs) (length l) t)))))
     by false t e f = absurd (not-refused n 13 0 e)
+
+-- ---- the length, told with no buffer
+
+pub length-refused : (number place : ℕ) (o : Outcome) → o ≡ refuses number place → Refused number place ≡ lengthFor o
+unfolding lengthFor
+length-refused number place o e = rw e
+
+pub length-given : (o : Outcome) (xs : List ℕ) → o ≡ gives xs → (n : ℕ) → n ≡ length xs → Length n ≡ lengthFor o
+unfolding lengthFor
+length-given o xs e n q = rw e (ap Length q)
+
+-- and back: what a told length, or a refusal to tell it, says of the outcome
+pub refused-length : (o : Outcome) (number place : ℕ) → Refused number place ≡ lengthFor o → o ≡ refuses number place
+unfolding lengthFor
+refused-length (refuses m p) number place e = let same : Refused number place ≡ Refused m p = e in cc
+refused-length (gives xs) number place e = absurd (not-refused (length xs) number place (sym e))
+
+pub record Long (o : Outcome) (n : ℕ) : Type 0 where
+  pub bytes : List ℕ
+  pub given : o ≡ gives bytes
+  pub long : n ≡ length bytes
+
+pub long-given : (o : Outcome) (n : ℕ) → Length n ≡ lengthFor o → Long o n
+unfolding lengthFor
+long-given (refuses number place) n e = absurd (not-refused n number place e)
+long-given (gives xs) n e = let same : Length n ≡ Length (length xs) = e in record { bytes = xs; given = refl; long = cc }

@@ -15,6 +15,11 @@ pub data Outcome : Type 0 where
   refuses : ℕ → ℕ → Outcome
   gives : List ℕ → Outcome
 
+-- how long that is: 02, Req 02, "one answers the length for an account". No buffer is lent, and so there is no 13
+unfoldable pub lengthFor : Outcome → Written
+lengthFor (refuses number place) = Refused number place
+lengthFor (gives xs) = Length (length xs)
+
 -- 13: "lent buffer shorter than the statement"
 unfoldable pub answerFor : Outcome → List ℕ → Written
 answerFor (refuses number place) l = Refused number place

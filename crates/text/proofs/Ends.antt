@@ -1,24 +1,23 @@
--- Each way in which the text of a statement call ends: what was given is a statement, and a refusal is the definition's own, since the buffer is
--- long enough for every statement. Assumes nothing.
+-- Each way in which the text ends: the length is refused, or just so many bytes are lent, and a statement is given. Assumes nothing.
 use Prim.Native.Nat.{ℕ, _+_, _*_, _^_, _≤_, _<_}
-use mathlib.Core.Path.{_≡_, refl, sym, ap, _∙_}
-use mathlib.Core.Bool.{Bool, true}
-use mathlib.Core.List.{List, [], _∷_}
+use mathlib.Core.Path.{_≡_, sym, ap, _∙_}
+use mathlib.Core.Bool.{true}
+use mathlib.Core.List.{List, [], _∷_, _++_}
 use native.Mathlib.Omega.{arith}
 use borrow.Author.Tests.{leb-true, le-leb, lt-ltb, le-ltb}
 use lib.Dec.{eqb, leb}
-use lib.ListN.{length, take, length-take}
+use lib.ListN.{length, take, drop, length-append}
+use lib.Seq.{length-take-le, take-append-le}
 use Rattle.ground.specs.Bytes.{u32At, partFrom, part, AreBytes}
 use Rattle.ground.specs.Inner.Put.{Wrote}
 use Rattle.ground.proofs.Every.{every}
-use Rattle.ground.proofs.Put.{wrote-more, wrote-length}
-use Rattle.sections.proofs.Cases.{zero-one}
+use Rattle.ground.proofs.Put.{put-length, wrote-more, wrote-length}
 use Rattle.calendar.specs.Calendar.{isPeriod}
-use Rattle.statement.specs.Lent.{Outcome, refuses, gives, answerFor, Lent}
+use Rattle.statement.specs.Lent.{Outcome, gives, lengthFor, answerFor, leftIn, Lent}
 use Rattle.statement.specs.declared.Heading.{Heading}
 use Rattle.statement.specs.declared.Written.{Written}
 use Rattle.statement.specs.declared.Written.the-variants.{Length, Refused}
-use Rattle.statement.proofs.Lent.{lent-front}
+use Rattle.statement.proofs.Lent.{lent-front, refused-length, Long, long-given}
 use Rattle.parsing.specs.Parsing.{headingAt, headingOk, linesIn, statementMarked, headed, isStatement}
 use Rattle.parsing.proofs.Whole.{headed-length, statement-long, statement-headed}
 use Rattle.settlement.specs.Settle.{outcome}
@@ -63,47 +62,57 @@ module _ (s : List ℕ) (q : isStatement s ≡ true) where
           within = omega (arith, rw g at (w .next), rw g at (v .next), few-lines, heading-short s bytes, lines-short s bytes (headingAt s .lines), wrote-length w, wrote-length v);
         }
 
--- ---- what the statement call answers
+-- ---- a statement that is lent just its length: o is what the rules give, of n bytes; d is the array whose first n are lent, and e what they
+-- ---- hold then
 
-apart : (n number place : ℕ) → Refused number place ≡ Length n → ⊥
-apart n number place e = zero-one cc
+module _ (o : Outcome) {n : ℕ} (told : Length n ≡ lengthFor o) (d : List ℕ) (fits : n ≤ length d) {r : Written} {e : List ℕ} (h : Lent o (take n d) r e) where
+  due : Long o n
+  due = long-given o n told
 
--- into a buffer that is long enough a refusal is the definition's own, and not 13
-own-refusal : (o : Outcome) (l : List ℕ) (number place : ℕ) → ((xs : List ℕ) → o ≡ gives xs → length xs ≤ length l) → Refused number place ≡ answerFor o l → o ≡ refuses number place
-unfolding answerFor
-own-refusal (refuses m p) l number place few e = let same : Refused number place ≡ Refused m p = e in cc
-own-refusal (gives xs) l number place few e = absurd (apart (length xs) number place (rw (le-leb (length xs) (length l) (few xs refl)) at e))
+  has-room : leb (length (due .bytes)) (length (take n d)) ≡ true
+  has-room = le-leb (length (due .bytes)) (length (take n d)) (omega (arith, due .long, length-take-le n d fits))
 
-module _ (b : List ℕ) (account : ℕ) (bytes : AreBytes b) (small : account < 2 ^ 32) {l : List ℕ} {r : Written} {x : List ℕ} (h : Lent (outcome b account) l r x) (room : 51_672 ≡ length l) where
-  short : (xs : List ℕ) → outcome b account ≡ gives xs → length xs ≤ length l
-  short xs e = omega (arith, statement-short xs (written-and-read b account xs bytes small e .accepted))
+  -- it is never refused 13
+  just-room : r ≡ Length n
+  unfolding answerFor
+  just-room = (rw (due .given, has-room) at (h .answer)) ∙ ap Length (sym (due .long))
 
-  module _ (n : ℕ) (q : r ≡ Length n) where
-    given : outcome b account ≡ gives (take n x)
-    unfolding part
-    given = lent-front (outcome b account) l n x (rw q at h)
+  as-long : length e ≡ n
+  unfolding leftIn
+  as-long = ap length (rw (due .given, has-room) at (h .left)) ∙ put-length (take n d) 0 (due .bytes) ∙ length-take-le n d fits
 
-    pub is-statement : isStatement (take n x) ≡ true
-    is-statement = written-and-read b account (take n x) bytes small given .accepted
+  -- what was given stands at the array's front
+  front-given : o ≡ gives (take n (e ++ drop n d))
+  unfolding part
+  front-given =
+      lent-front o (take n d) n e (rw just-room at h)
+      ∙ ap gives (sym (take-append-le n e (drop n d) (omega (arith, as-long))))
 
-    answered : Length n ≡ Length (length (take n x))
-    unfolding answerFor
-    answered = sym q ∙ (rw (given, le-leb (length (take n x)) (length l) (short (take n x) given)) at (h .answer))
+module _ (b : List ℕ) (account : ℕ) (bytes : AreBytes b) (small : account < 2 ^ 32) {n : ℕ} (told : Length n ≡ lengthFor (outcome b account)) (d : List ℕ) (room : 51_672 ≡ length d) where
+  -- the array holds every statement
+  pub fits : n ≤ length d
+  fits =
+      let due = long-given (outcome b account) n told in
+      omega (arith, due .long, statement-short (due .bytes) (written-and-read b account (due .bytes) bytes small (due .given) .accepted))
 
-    pub lies : n ≤ length x
-    lies = let e : n ≡ length (take n x) = (let f = answered in cc) in omega (arith, e ∙ length-take n x)
+  module _ {r : Written} {e : List ℕ} (h : Lent (outcome b account) (take n d) r e) where
+    given : outcome b account ≡ gives (take n (e ++ drop n d))
+    given = front-given (outcome b account) told d fits h
 
-    pub said-given : {t u : List ℕ} {e : ℕ} → Said t (statementText (headingAt (take n x)) (linesIn (take n x) (headingAt (take n x) .lines))) u e → Said t (outcomeText (outcome b account)) u e
+    pub lies : n ≤ length (e ++ drop n d)
+    lies = rw length-append (omega (arith, as-long (outcome b account) told d fits h))
+
+    pub is-statement : isStatement (take n (e ++ drop n d)) ≡ true
+    is-statement = written-and-read b account (take n (e ++ drop n d)) bytes small given .accepted
+
+    pub said-given : {t u : List ℕ} {k : ℕ} → Said t (statementText (headingAt (take n (e ++ drop n d))) (linesIn (take n (e ++ drop n d)) (headingAt (take n (e ++ drop n d)) .lines))) u k → Said t (outcomeText (outcome b account)) u k
     unfolding outcomeText
     said-given w = rw given w
 
-  module _ (number place : ℕ) (q : r ≡ Refused number place) where
-    refused : outcome b account ≡ refuses number place
-    refused = own-refusal (outcome b account) l number place short (sym q ∙ h .answer)
-
-    pub said-refused : {t u : List ℕ} {e : ℕ} → Said t (refusalText number place) u e → Said t (outcomeText (outcome b account)) u e
-    unfolding outcomeText
-    said-refused w = rw refused w
+-- where the length is refused, the outcome is that refusal
+pub said-refused : (o : Outcome) {number place : ℕ} {w : Written} → w ≡ lengthFor o → w ≡ Refused number place → {t u : List ℕ} {e : ℕ} → Said t (refusalText number place) u e → Said t (outcomeText o) u e
+unfolding outcomeText
+said-refused o a q s = rw (refused-length o _ _ (sym q ∙ a)) s
 
 -- ---- the input
 

@@ -5,6 +5,8 @@ ghost use mathlib.Core.Bool.{true};
 ghost use Prim.Native.Nat.{_≤_};
 ghost use lib.ListN.{length};
 ghost use Rattle.parsing.specs.Parsing.{headingAt, linesIn, isStatement};
+ghost use Rattle.statement.specs.Lent.{lengthFor};
+ghost use Rattle.statement.specs.declared.Written.the-variants.{Length};
 ghost use Rattle.settlement.specs.Settle.{outcome};
 ghost use Rattle.printing.specs.Inner.Said.{Said};
 ghost use Rattle.printing.specs.Printing.{statementText};
@@ -24,21 +26,31 @@ pub fn put_statement(text: &mut [u8], s: &[u8]) -> usize
     printing::put_lines(text, e, s, lines)
 }
 
-// A buffer for the longest statement: 24 bytes, and 24 for each of 2,152 lines.
+// Room for the longest statement: 24 bytes, and 24 for each of 2,152 lines.
 fn room() -> [u8; 51_672]
     ensures { λ r. ⌜ 51_672 ≡ length r ⌝ }
 {
     [0; 51_672]
 }
 
-// What is said of an account's statement from a book. The buffer holds any statement, so that 13 is never said.
+// An account's statement from a book, of n bytes: just so many are lent, and so they are written.
+fn put_settled(text: &mut [u8], account: u32, book: &[u8], n: usize) -> usize
+    requires { ⌜ 114_128 ≤ length (now text) ⌝ }
+    requires { ⌜ Length n ≡ lengthFor (outcome (now book) account) ⌝ }
+    ensures { λ r. ⌜ Said (now (text .entry)) (outcomeText (outcome (now (book .entry)) account)) (now (text .exit)) r ⌝ }
+{
+    let mut buffer = room();
+    let _written = settlement::statement(book, account, &mut buffer[..n]);
+    put_statement(text, &buffer[..n])
+}
+
+// What is said of an account's statement from a book. Its length is asked first: what refuses the statement refuses that.
 fn put_outcome(text: &mut [u8], account: u32, book: &[u8]) -> usize
     requires { ⌜ 114_128 ≤ length (now text) ⌝ }
     ensures { λ r. ⌜ Said (now (text .entry)) (outcomeText (outcome (now (book .entry)) account)) (now (text .exit)) r ⌝ }
 {
-    let mut buffer = room();
-    match settlement::statement(book, account, &mut buffer) {
-        Written::Length(n) => put_statement(text, &buffer[..n]),
+    match settlement::length(book, account) {
+        Written::Length(n) => put_settled(text, account, book, n),
         Written::Refused(number, place) => printing::put_refusal(text, number, place),
     }
 }

@@ -31,25 +31,17 @@ use Rattle.accounts.proofs.Lists.{some-rows}
 use Rattle.statement.specs.Lent.{Outcome, refuses, gives}
 use Rattle.lines.specs.Limit.{anyOver}
 use Rattle.settlement.specs.Settle.{linesOf, statementOf, settled, outcomeIf, outcome}
-use Rattle.settlement.specs.Inner.Owned.{Owned}
-use Rattle.settlement.proofs.Ends.{own-of}
+use Rattle.settlement.proofs.Settled.{apart, settled-back}
+use Rattle.settlement.proofs.Owned.{Owned, own-of}
 use Rattle.trips.proofs.Due.{Narrow}
 
 -- ---- a call that gives bytes passed every check
-
-apart : (number place : ℕ) (xs : List ℕ) → refuses number place ≡ gives xs → ⊥
-apart number place xs e = zero-one cc
 
 -- 1 to 10
 verdict-gives : (v : Verdict) (o : Outcome) (xs : List ℕ) → outcomeIf v o ≡ gives xs → (v ≡ Accepted) × (o ≡ gives xs)
 unfolding outcomeIf
 verdict-gives Accepted o xs e = (refl, e)
 verdict-gives (Refused number place) o xs e = absurd (apart number place xs e)
-
--- 11 and 12
-check-gives : (t : Bool) (number : ℕ) (o : Outcome) (xs : List ℕ) → cond t (refuses number 0) o ≡ gives xs → (t ≡ false) × (o ≡ gives xs)
-check-gives true number o xs e = absurd (apart number 0 xs e)
-check-gives false number o xs e = (refl, e)
 
 pub record Passed (b : List ℕ) (account : ℕ) (xs : List ℕ) : Type 0 where
   pub book : verdict b ≡ Accepted
@@ -58,15 +50,11 @@ pub record Passed (b : List ℕ) (account : ℕ) (xs : List ℕ) : Type 0 where
   pub bytes : xs ≡ statementOf account (publicOf (bookOf b)) (rowsOfAccount (bookOf b) account)
 
 pub passed : (b : List ℕ) (account : ℕ) (xs : List ℕ) → outcome b account ≡ gives xs → Passed b account xs
-unfolding outcome settled
+unfolding outcome
 passed b account xs e =
-    let P = publicOf (bookOf b) in
-    let R = rowsOfAccount (bookOf b) account in
-    let v = verdict-gives (verdict b) (settled account P R) xs e in
-    let k = check-gives (unknown R) 11 (cond (anyOver (linesOf P R)) (refuses 12 0) (gives (statementOf account P R))) xs (v .1) in
-    let u = check-gives (anyOver (linesOf P R)) 12 (gives (statementOf account P R)) xs (k .1) in
-    let last : gives (statementOf account P R) ≡ gives xs = u .1 in
-    record { book = v .0; known = k .0; under = u .0; bytes = cc }
+    let v = verdict-gives (verdict b) (settled account (publicOf (bookOf b)) (rowsOfAccount (bookOf b) account)) xs e in
+    let s = settled-back account (publicOf (bookOf b)) (rowsOfAccount (bookOf b) account) xs (v .1) in
+    record { book = v .0; known = s .known; under = s .under; bytes = s .bytes }
 
 -- ---- the account
 

@@ -27,7 +27,30 @@ pub fn check(book: &[u8]) -> Result<(), Refusal> {
     calls::check(book).into_result()
 }
 
-/// The statement of an account, of just its length.
+/// How many bytes an account's statement has, and so how much room [`statement_into`]
+/// needs for it. 1 to 12 are looked for as a statement looks for them.
+///
+/// ```
+/// # fn main() -> Result<(), Box<dyn std::error::Error>> {
+/// let book = std::fs::read("../../books/worked.book")?;
+/// let length = fervolatro::length(&book, 7)?;
+/// // A header and twelve lines, of 24 bytes each.
+/// assert_eq!(length, 312);
+/// let mut buffer = vec![0; length];
+/// assert_eq!(fervolatro::statement_into(&book, 7, &mut buffer)?, length);
+/// let refusal = fervolatro::length(&book, 8).unwrap_err();
+/// assert_eq!(refusal.reason, fervolatro::Reason::NoAccount);
+/// # Ok(())
+/// # }
+/// ```
+pub fn length(book: &[u8], account: u32) -> Result<usize, Refusal> {
+    let length = calls::length(book, account).into_length()?;
+    assert!(length <= LARGEST_STATEMENT, "a statement of {length} bytes");
+    Ok(length)
+}
+
+/// The statement of an account. Its length is asked for first, and just so much room is
+/// made.
 ///
 /// ```
 /// # fn main() -> Result<(), Box<dyn std::error::Error>> {
@@ -39,15 +62,16 @@ pub fn check(book: &[u8]) -> Result<(), Refusal> {
 /// # }
 /// ```
 pub fn statement(book: &[u8], account: u32) -> Result<Vec<u8>, Refusal> {
-    let mut statement = vec![0; LARGEST_STATEMENT];
-    let length = statement_into(book, account, &mut statement)?;
-    statement.truncate(length);
-    statement.shrink_to_fit();
+    let length = length(book, account)?;
+    let mut statement = vec![0; length];
+    let written = statement_into(book, account, &mut statement);
+    assert_eq!(written, Ok(length), "a statement has the length asked for");
     Ok(statement)
 }
 
-/// Writes an account's statement at the front of the buffer and gives its length;
-/// later bytes stay. A refusal leaves every byte of the buffer.
+/// Writes an account's statement at the front of the buffer and gives its length, which
+/// [`length`] tells beforehand; later bytes stay. A refusal leaves every byte of the
+/// buffer. 1 to 13 are looked for in their order.
 ///
 /// ```
 /// let mut buffer = [7; 312];

@@ -102,19 +102,29 @@ fn ask_to_write(mut request: Vec<u8>, buffer: &mut [u8]) -> Written {
     put_slice(&mut request, buffer);
     BRIDGE.with_borrow_mut(|bridge| {
         bridge.send(&request);
-        let [refusal, place, length] = bridge.numbers();
+        let written = written(bridge.numbers());
         bridge.receive(buffer);
-        Written {
-            refusal,
-            place,
-            length,
-        }
+        written
     })
+}
+
+fn written([refusal, place, length]: [u64; 3]) -> Written {
+    Written {
+        refusal,
+        place,
+        length,
+    }
 }
 
 pub(crate) fn check(book: &[u8]) -> Verdict {
     let [refusal, place] = ask(&request(b'c', book));
     Verdict { refusal, place }
+}
+
+pub(crate) fn length(book: &[u8], account: u32) -> Written {
+    let mut request = request(b'n', book);
+    request.extend_from_slice(&account.to_le_bytes());
+    written(ask(&request))
 }
 
 pub(crate) fn statement(book: &[u8], account: u32, buffer: &mut [u8]) -> Written {

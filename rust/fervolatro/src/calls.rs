@@ -78,10 +78,16 @@ impl Verdict {
 }
 
 impl Written {
-    /// The answer as a result. What is written lies within the buffer.
-    pub(crate) fn into_result(self, room: usize) -> Result<usize, Refusal> {
+    /// The answer as a result. A refusal has no length.
+    pub(crate) fn into_length(self) -> Result<usize, Refusal> {
         let length = usize::try_from(self.length).expect("a length fits the memory");
         accepted(self.refusal, self.place, length == 0)?;
+        Ok(length)
+    }
+
+    /// The answer of a call that writes. What is written lies within the buffer.
+    pub(crate) fn into_result(self, room: usize) -> Result<usize, Refusal> {
+        let length = self.into_length()?;
         assert!(length <= room, "{length} bytes written into {room}");
         Ok(length)
     }
@@ -97,11 +103,11 @@ impl Cost {
 
 #[cfg(not(any(target_arch = "x86_64", feature = "native")))]
 pub(crate) use crate::bridge::{
-    balance, base_cost, check, header, line, lines, payment, rewrite, statement,
+    balance, base_cost, check, header, length, line, lines, payment, rewrite, statement,
 };
 #[cfg(any(target_arch = "x86_64", feature = "native"))]
 pub(crate) use linked::{
-    balance, base_cost, check, header, line, lines, payment, rewrite, statement,
+    balance, base_cost, check, header, length, line, lines, payment, rewrite, statement,
 };
 
 #[cfg(any(target_arch = "x86_64", feature = "native"))]
@@ -110,6 +116,8 @@ mod linked {
 
     extern "C" {
         fn fervolatro_check(book: *const u8, book_len: usize) -> Verdict;
+
+        fn fervolatro_length(book: *const u8, book_len: usize, account: u32) -> Written;
 
         fn fervolatro_statement(
             book: *const u8,
@@ -150,8 +158,13 @@ mod linked {
         unsafe { fervolatro_check(book.as_ptr(), book.len()) }
     }
 
+    pub(crate) fn length(book: &[u8], account: u32) -> Written {
+        // SAFETY: as for a check.
+        unsafe { fervolatro_length(book.as_ptr(), book.len(), account) }
+    }
+
     pub(crate) fn statement(book: &[u8], account: u32, buffer: &mut [u8]) -> Written {
-        // SAFETY: as above; the buffer is lent to this call alone, so it does not
+        // SAFETY: as for a check; the buffer is lent to this call alone, so it does not
         // overlap the book, and the library writes within its length.
         unsafe {
             fervolatro_statement(
@@ -216,7 +229,7 @@ mod linked {
 
 #[cfg(test)]
 mod tests {
-    use super::{Cost, Entry, Heading, Pool, Verdict, Written};
+    use super::{Cost, Entry, Heading, Pool, Refusal, Verdict, Written};
     use std::mem::offset_of;
 
     const HEADER: &str = include_str!("../../../include/fervolatro.h");
@@ -258,5 +271,34 @@ mod tests {
         assert!(fields_in_header("fervolatro_fields")
             .into_iter()
             .eq(numbers));
+    }
+
+    fn written(refusal: u64, length: u64) -> Written {
+        Written {
+            refusal,
+            place: 0,
+            length,
+        }
+    }
+
+    #[test]
+    fn lengths_and_refusals_are_told() {
+        assert_eq!(written(0, 312).into_length(), Ok(312));
+        assert_eq!(written(0, 312).into_result(312), Ok(312));
+        let refusal = Refusal::of(11, 0);
+        assert_eq!(written(11, 0).into_length(), Err(refusal));
+        assert_eq!(written(11, 0).into_result(312), Err(refusal));
+    }
+
+    #[test]
+    #[should_panic(expected = "a refusal gives nothing")]
+    fn a_refusal_that_has_a_length_is_not_passed_over() {
+        let _ = written(11, 312).into_length();
+    }
+
+    #[test]
+    #[should_panic(expected = "312 bytes written into 311")]
+    fn more_bytes_than_were_lent_are_not_passed_over() {
+        let _ = written(0, 312).into_result(311);
     }
 }

@@ -6,14 +6,16 @@
 //! what the rules say.
 //!
 //! - [`check`] says whether a book is accepted, and if not, why and where.
-//! - [`statement()`] gives an account's statement, [`accounts`] the accounts there are.
+//! - [`statement()`] gives an account's statement, [`length`] how many bytes it has,
+//!   [`accounts`] the accounts there are.
 //! - [`balance`] gives the balance of a pool, [`pools`] the pools there are.
 //! - [`Statement::read`] reads a statement: its heading, and its lines one by one.
 //! - [`payment`] gives a service's payment, [`base_cost`] a constraint's base cost, from
 //!   dispatch rows.
 //!
 //! Where nothing may be allocated, [`statement_into`], [`header`], [`line()`],
-//! [`lines_into`] and [`rewrite_into`] do the same with bytes that are lent to them.
+//! [`lines_into`] and [`rewrite_into`] do the same with bytes that are lent to them;
+//! [`length`] says how many a statement takes.
 //!
 //! ```
 //! # fn main() -> Result<(), Box<dyn std::error::Error>> {
@@ -42,8 +44,8 @@ mod refusal;
 mod statement;
 
 pub use book::{
-    accounts, balance, check, pools, statement, statement_into, Balance, Pool, PoolKind, Source,
-    LARGEST_BOOK,
+    accounts, balance, check, length, pools, statement, statement_into, Balance, Pool, PoolKind,
+    Source, LARGEST_BOOK,
 };
 pub use dispatch::{base_cost, payment, DISPATCH_ROW_SIZE};
 pub use kinds::{Mode, Part, Region, Regions, Service};

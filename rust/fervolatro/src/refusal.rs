@@ -7,9 +7,9 @@ use crate::numbered::numbered;
 
 numbered! {
     /// The reasons for a refusal, as the rules number them: 1 to 10 come from every
-    /// call on a book, 11 to 13 from writing its statement, 15 from asking for a
-    /// balance; 13 to 15 from a call on a statement; 16 from a call on dispatch rows.
-    /// The lowest that applies is given.
+    /// call on a book, 11 and 12 from asking for a statement or for its length, 13 from
+    /// writing it, 15 from asking for a balance; 13 to 15 from a call on a statement; 16
+    /// from a call on dispatch rows. The lowest that applies is given.
     Reason {
         Short = 1, "book shorter than 84 bytes";
         Mark = 2, "mark, version or a reserved header byte wrong";

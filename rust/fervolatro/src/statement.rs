@@ -11,7 +11,7 @@ use crate::refusal::Refusal;
 pub const MOST_LINES: usize = 2_152;
 
 /// The bytes of the longest statement. A buffer of this length is never refused as too
-/// short.
+/// short; [`length`](crate::length) says how long the one at hand is.
 pub const LARGEST_STATEMENT: usize = 51_672;
 
 /// The bytes of the numbers that [`lines_into`] writes for each line.

@@ -2,7 +2,7 @@
 //!
 //! [`library`] asks the library, through the package for users, for plain numbers.
 //! [`mod@reference`] is a second, independent statement of the same rules, written from
-//! the scope document (01) and the request for costs (02, Req 01) alone; [`book`],
+//! the scope document (01) and the requests that have landed (02) alone; [`book`],
 //! [`statement`] and [`dispatch`] have the records and their bytes, [`requests`] what
 //! books, statements and dispatch rows are made with, [`harness`] what compares the two
 //! on some hundred thousand of each. [`fast`] is the same once more, written for speed,

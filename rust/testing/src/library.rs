@@ -9,6 +9,10 @@ pub fn check(book: &[u8]) -> Result<(), Refusal> {
     fervolatro::check(book).map_err(plain)
 }
 
+pub fn length(book: &[u8], account: u32) -> Result<usize, Refusal> {
+    fervolatro::length(book, account).map_err(plain)
+}
+
 pub fn statement(book: &[u8], account: u32, buffer: &mut [u8]) -> Result<usize, Refusal> {
     fervolatro::statement_into(book, account, buffer).map_err(plain)
 }

@@ -178,8 +178,10 @@ fn line(&(id, part, regions, unit, amount): &Listed) -> Line {
 
 /// Compares an account's statement with the lines worked by hand, header included.
 fn compare_statement(account: u32, listed: &[Listed]) {
+    let length = 24 + 24 * listed.len();
+    assert_eq!(fervolatro::length(&book(), account), Ok(length));
     let statement = fervolatro::statement(&book(), account).expect("settled");
-    assert_eq!(statement.len(), 24 + 24 * listed.len());
+    assert_eq!(statement.len(), length);
     let heading = Heading {
         account,
         date: 20_280_229,

@@ -1,7 +1,7 @@
 //! Compares the fast version, which the benchmark holds the library against, with
-//! the reference: checks, statements and balances of accepted books of every size,
-//! of books with faults, fields at their edges and turned bits; and all lines of
-//! statements, of any bytes. The library is not asked.
+//! the reference: checks, statements, their lengths and balances of accepted books of
+//! every size, of books with faults, fields at their edges and turned bits; and all lines
+//! of statements, of any bytes. The library is not asked.
 
 use fervolatro_testing::book::{Book, Sections};
 use fervolatro_testing::harness::{Answer, Call, Family, Run, Units, Wanted, FAST};
@@ -23,6 +23,7 @@ fn fast_and_reference_agree() {
         inputs: 105_000,
         answers: &[
             ("check", &[0, 1, 2, 3, 4, 5, 6, 7, 8, 9, 10]),
+            ("length", &[0, 1, 2, 3, 4, 5, 6, 7, 8, 9, 10, 11]),
             ("statement", &[0, 1, 2, 3, 4, 5, 6, 7, 8, 9, 10, 11, 13]),
             ("balance", &[0, 1, 2, 3, 4, 5, 6, 7, 8, 9, 10, 15]),
         ],
@@ -62,7 +63,7 @@ const STATEMENTS: [Family; 3] = [
 /// Compares the check, a statement in some buffer, and a balance.
 fn compare(run: &mut Run, bytes: &[u8], account: u32) {
     run.input();
-    let room = run.random.below(1_000);
+    let room = run.some_room(bytes, account, 1_000);
     let pool = *run.random.pick(&[0, 1, 4, u64::MAX]);
     for call in [
         Call::Check,
@@ -84,8 +85,7 @@ fn compare_accepted(run: &mut Run, book: &Book, accounts: &[u32]) {
     let bytes = book.encode();
     assert_eq!(run.compare(Call::Check, &bytes), Ok(Answer::Nothing));
     for &account in accounts {
-        let settled = reference::whole_statement(&bytes, account);
-        let length = settled.map_or(300, |statement| statement.len());
+        let length = reference::length(&bytes, account).unwrap_or(300);
         for room in [length, length - 1, length + 30] {
             let _ = run.compare(Call::Statement { account, room }, &bytes);
         }

@@ -1,6 +1,6 @@
-//! An account's statement tells nothing about its neighbours: in books that agree
-//! in what is public and in the account's own rows, and differ in all the rest,
-//! the library writes the same bytes.
+//! An account's statement tells nothing about its neighbours, nor does its length: in
+//! books that agree in what is public and in the account's own rows, and differ in all
+//! the rest, the library answers the same length and writes the same bytes.
 
 use fervolatro_testing::book::Book;
 use fervolatro_testing::harness::lent::Lent;
@@ -16,6 +16,7 @@ const OTHER_COUNTS: &str = "other numbers of rows";
 #[test]
 fn statements_do_not_show_neighbours() {
     let mut seen: Vec<(String, u64)> = [0, 11, 13].map(|of| (answer(of), 1_000)).to_vec();
+    seen.extend([0, 11].map(|of| (length_answer(of), 1_000)));
     seen.extend(CHANGES.map(|change| (change.name.to_owned(), 100)));
     seen.push((OTHER_COUNTS.to_owned(), 10_000));
     Run::over(&FAMILIES, LIBRARY, Units::Shared).finish(&Wanted {
@@ -39,14 +40,18 @@ fn answer(number: u8) -> String {
     format!("answer {number:2}")
 }
 
+fn length_answer(number: u8) -> String {
+    format!("length, answer {number:2}")
+}
+
 fn compare_pairs(run: &mut Run, pairs: usize, most: Sizes) {
     for _ in 0..pairs {
         compare_pair(run, most);
     }
 }
 
-/// Draws a book and an account, changes the account's neighbours, and compares what
-/// the library writes.
+/// Draws a book and an account, changes the account's neighbours, and compares the
+/// lengths that the library answers and what it writes.
 fn compare_pair(run: &mut Run, most: Sizes) {
     let (book, account) = book_and_account(run, most);
     let changed = changed(run, &book, account);
@@ -57,9 +62,28 @@ fn compare_pair(run: &mut Run, most: Sizes) {
     if pair[0].len() != pair[1].len() {
         run.see(OTHER_COUNTS);
     }
+    compare_lengths(run, &pair, account);
+    compare_statements(run, &pair, account);
+}
+
+/// The lengths have to be the same, refusals too.
+fn compare_lengths(run: &mut Run, pair: &[Vec<u8>; 2], account: u32) {
+    let [first, second] = pair.each_ref().map(|bytes| library::length(bytes, account));
+    assert!(
+        first == second,
+        "{}: lengths {first:?} and {second:?}; account {account}, {} and {}",
+        run.place(),
+        shown(&pair[0]),
+        shown(&pair[1])
+    );
+    run.see(length_answer(number(first)));
+}
+
+/// So have the statements, and every byte of the buffers.
+fn compare_statements(run: &mut Run, pair: &[Vec<u8>; 2], account: u32) {
     let room = room(run, &pair[0], account);
     let start = run.random.bits() as u8;
-    let [first, second] = [&pair[0], &pair[1]].map(|bytes| {
+    let [first, second] = pair.each_ref().map(|bytes| {
         let mut lent = Lent::new(room, start);
         (library::statement(bytes, account, lent.buffer()), lent)
     });
@@ -113,12 +137,13 @@ fn assert_right_pair(book: &Book, changed: &Book, account: u32, pair: &[Vec<u8>;
     }
 }
 
-/// Room for the statement, now and then too little.
+/// Room for the statement, now and then too little, at times by one byte.
 fn room(run: &mut Run, bytes: &[u8], account: u32) -> usize {
-    let length = reference::whole_statement(bytes, account).map_or(312, |of| of.len());
+    let length = reference::length(bytes, account).unwrap_or(312);
     match run.random.below(8) {
         0 => run.random.below(length),
-        1 => length,
+        1 => length - 1,
+        2 => length,
         _ => length + run.random.below(100),
     }
 }

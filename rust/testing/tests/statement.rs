@@ -1,5 +1,6 @@
-//! Compares the library's statements with the reference's: small and large books,
-//! every sort of account, buffers of every length about the statement's, refused books.
+//! Compares the library's statements with the reference's, and their lengths, which the
+//! harness asks for with each: small and large books, every sort of account, buffers of
+//! every length about the statement's, refused books.
 //!
 //! 12 is never given. A line is a share of a pool, and an account's energy or a
 //! factor is at most the whole that divides it, in size. Costs and payments are at
@@ -23,6 +24,7 @@ fn library_and_reference_write_the_same() {
     Run::over(&FAMILIES, LIBRARY, Units::Shared).finish(&Wanted {
         inputs: 75_000,
         answers: &[
+            ("length", &[0, 1, 2, 3, 4, 5, 6, 7, 8, 9, 10, 11]),
             ("statement", &[0, 1, 2, 3, 4, 5, 6, 7, 8, 9, 10, 11, 13]),
             ("whole statement", &[0, 1, 2, 3, 4, 5, 6, 7, 8, 9, 10, 11]),
         ],
@@ -55,14 +57,10 @@ fn compare(run: &mut Run, book: &[u8], account: u32, room: usize) -> bool {
 
 /// The length of an account's statement; some other where it has none.
 fn length_of(bytes: &[u8], account: u32) -> usize {
-    let settled = reference::whole_statement(bytes, account);
-    settled.map_or_else(
-        |refusal| {
-            assert_eq!(refusal.number, 11, "not accepted: {}", shown(bytes));
-            312
-        },
-        |statement| statement.len(),
-    )
+    reference::length(bytes, account).unwrap_or_else(|refusal| {
+        assert_eq!(refusal.number, 11, "not accepted: {}", shown(bytes));
+        312
+    })
 }
 
 /// Compares an account of an accepted book: the statement by itself, in just enough
@@ -169,7 +167,7 @@ fn compare_refused(run: &mut Run, bytes: &[u8], account: u32, room: usize) -> bo
 fn refused_books(run: &mut Run) {
     run.each_fault(Sizes::SMALL, 10, |run, book, bytes| {
         let account = run.some_account(book);
-        let room = run.random.below(600);
+        let room = run.some_room(bytes, account, 600);
         compare_refused(run, bytes, account, room);
     });
     let book = run.accepted_of(Sizes::SMALL);
@@ -184,6 +182,7 @@ fn refused_books(run: &mut Run) {
 fn turned_bits(run: &mut Run) {
     run.each_turned_book(8_000, |run, book, bytes| {
         let account = run.some_account(book);
-        compare_refused(run, bytes, account, 1_000);
+        let room = run.some_room(bytes, account, 1_000);
+        compare_refused(run, bytes, account, room);
     });
 }

@@ -19,12 +19,14 @@ use fervolatro_testing::{library, reference, Refusal};
 const TASMANIA: u8 = 0b01000;
 const MAINLAND: u8 = 0b10111;
 
-/// The statement, which both have to write, in a buffer that is long enough.
+/// The statement, which both have to write, in a buffer of just the length asked for.
 fn statement(book: &Book, account: u32) -> Statement {
     let bytes = book.encode();
-    let mut buffer = [0; 4_096];
-    let length = library::statement(&bytes, account, &mut buffer).expect("it is written");
-    let library = Statement::decode(&buffer[..length]);
+    let length = library::length(&bytes, account).expect("it is settled");
+    let mut buffer = vec![0; length];
+    let written = library::statement(&bytes, account, &mut buffer);
+    assert_eq!(written, Ok(length));
+    let library = Statement::decode(&buffer);
     let reference = reference::settle(&bytes, account).expect("it is settled");
     assert_eq!(library, reference);
     library

@@ -1,6 +1,6 @@
 //! What the package for users adds to the library's calls: lists of accounts and pools,
-//! statements of just their length, lines one by one, services by their names. The
-//! expected values are worked out by hand; `by_hand.rs` has those of the other book.
+//! statements of just the length asked for, lines one by one, services by their names.
+//! The expected values are worked out by hand; `by_hand.rs` has those of the other book.
 
 use fervolatro::{
     Mode, Part, Pool, PoolKind, Reason, Refusal, Region, Regions, Service, Source, Statement,
@@ -102,6 +102,10 @@ fn refused_books_have_no_lists() {
     assert_eq!(fervolatro::pools(&book), refused(Reason::NoConstraint, 224));
     let statement = fervolatro::statement(&book, 7);
     assert_eq!(statement, refused(Reason::NoConstraint, 224));
+    assert_eq!(
+        fervolatro::length(&book, 7),
+        refused(Reason::NoConstraint, 224)
+    );
     assert_eq!(fervolatro::accounts(b"RCB"), refused(Reason::Short, 0));
 }
 
@@ -109,21 +113,44 @@ fn refused_books_have_no_lists() {
 #[test]
 fn statements_have_just_their_length() {
     let book = worked_book().encode();
+    let length = fervolatro::length(&book, 7);
+    assert_eq!(length, Ok(312));
     let statement = fervolatro::statement(&book, 7).expect("it is settled");
-    assert_eq!((statement.len(), statement.capacity()), (312, 312));
+    assert_eq!(Ok(statement.len()), length);
     assert_eq!(statement, worked_statement().encode());
-    assert_eq!(
-        fervolatro::statement(&book, 8),
-        refused(Reason::NoAccount, 0)
-    );
+    for account in [0, 8] {
+        let length = fervolatro::length(&book, account);
+        assert_eq!(length, refused(Reason::NoAccount, 0));
+        let statement = fervolatro::statement(&book, account);
+        assert_eq!(statement, refused(Reason::NoAccount, 0));
+    }
+}
+
+/// Two lines of constraints 1 and 2, one unit's and the residual's of 3, three and three
+/// of 4, two and four of the contracts: 16, and 24 + 16 x 24 = 408.
+#[test]
+fn the_length_is_the_room_that_a_statement_takes() {
+    let book = small_halves_book().encode();
+    let length = fervolatro::length(&book, 7).expect("it is settled");
+    assert_eq!(length, 408);
+    let mut buffer = vec![7; length];
+    let written = fervolatro::statement_into(&book, 7, &mut buffer[..length - 1]);
+    assert_eq!(written, refused(Reason::Buffer, 0));
+    assert_eq!(buffer, vec![7; length]);
+    let written = fervolatro::statement_into(&book, 7, &mut buffer);
+    assert_eq!(written, Ok(length));
+    assert_eq!(fervolatro::statement(&book, 7), Ok(buffer));
 }
 
 /// The longest statement has 3 x 600 + 3 x 64 + 10 x 16 = 2,152 lines.
 #[test]
 fn the_longest_statement_is_written_and_read() {
     let (book, account) = book_of_longest_statement(&mut Random::new(1));
-    let statement = fervolatro::statement(&book.encode(), account).expect("it is settled");
-    assert_eq!(statement.len(), fervolatro::LARGEST_STATEMENT);
+    let book = book.encode();
+    let length = fervolatro::length(&book, account);
+    assert_eq!(length, Ok(fervolatro::LARGEST_STATEMENT));
+    let statement = fervolatro::statement(&book, account).expect("it is settled");
+    assert_eq!(Ok(statement.len()), length);
     let read = Statement::read(&statement).expect("it is a statement");
     assert_eq!(read.lines().len(), fervolatro::MOST_LINES);
     assert_eq!(fervolatro::rewrite(&statement), Ok(statement));

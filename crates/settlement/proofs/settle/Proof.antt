@@ -1,82 +1,62 @@
--- `settlement::settle` meets its contract. No row names the account, or its own energy is what its lines rest on. Assumes nothing.
+-- `settlement::settle` meets its contract. The length is refused, or the buffer is shorter, or the statement is written. Assumes nothing.
 use Rattle.book.specs.Book.{bookIn}
-use Rattle.accounts.proofs.Parts.{part-laid, part-sound, part-held}
-use Rattle.settlement.proofs.Ends.{owned-known, end-11}
+use Rattle.settlement.proofs.Ends.{end-refused, end-13, walk-of, fits-in, end-written}
 use borrow.Author.Needs.{needs}
 use Rattle.settlement.proofs.settle.Statement.{statement}
 use Rattle.settlement.proofs.settle.Tie as tie
 
-units-at-requires : tie.Need-units-at-requires
-units-at-requires c κs = search needs
+held-by-requires : tie.Need-held-by-requires
+held-by-requires c κs = search needs
 
-sub-own-energy : tie.Need-sub-own-energy
-sub-own-energy c = search needs
+sized-requires : tie.Need-sized-requires
+sized-requires c κs = search needs
 
-part-own-energy-start : tie.Need-part-own-energy-start
-part-own-energy-start c = search needs
-
-part-own-energy-end : tie.Need-part-own-energy-end
-part-own-energy-end c = search needs
-
-part-of-requires : tie.Need-part-of-requires
-part-of-requires c κs = search needs
-
-own-energy-requires : tie.Need-own-energy-requires
-own-energy-requires c κs =
-    let s = c .before .before .before .before .before in
-    (part-laid (s .args .book .now) (s .args .h) _ (c .part-of .ensures) (s .pre .0), part-sound (s .args .book .now) (s .args .h) _ (c .part-of .ensures) (s .pre .1 .sound))
-
-sub-is-known : tie.Need-sub-is-known
-sub-is-known c = search needs
-
-part-is-known-start : tie.Need-part-is-known-start
-part-is-known-start c = search needs
-
-part-is-known-end : tie.Need-part-is-known-end
-part-is-known-end c = search needs
-
-cast-is-known : tie.Need-cast-is-known
-cast-is-known c = search needs
-
-is-known-requires : tie.Need-is-known-requires
-is-known-requires c κs = search needs
+enum-known-n : tie.Need-enum-known-n
+enum-known-n c = search needs
 
 returns : tie.Need-returns
 returns c =
-    let o = c .before .before .before .before .before in
-    let u = o .before .before .before in
-    let s = u .before .before .before in
-    end-11 (bookIn (s .args .book .now) (s .args .h)) _ (s .pre .1) (part-held (s .args .book .now) (s .args .h) _ (o .before .part-of .ensures) _ (o .own-energy .ensures)) (rw (u .units-at .ensures) at (c .before .is-known .ensures)) _ (c .if1 .taken)
+    let w = c .before .before .before .before in
+    let s = w .before .before .before .before .before in
+    end-13 (bookIn (s .args .book .now) (s .args .h)) _ (s .pre .1) (w .before .before .held-by .ensures) _ (w .sized .ensures) (c .before .before .n .given .1) (c .if1 .taken)
 
-test-and-write-requires : tie.Need-test-and-write-requires
-test-and-write-requires c κs =
-    let o = c .before .before .before .before .before .before in
-    let u = o .before .before .before in
-    let s = u .before .before .before in
-    (s .pre .0, (s .pre .1, owned-known (bookIn (s .args .book .now) (s .args .h)) _ (s .pre .1) (part-held (s .args .book .now) (s .args .h) _ (o .before .part-of .ensures) _ (o .own-energy .ensures)) (rw (u .units-at .ensures) at (c .before .before .is-known .ensures)) (c .before .if1 .left)))
+write-requires : tie.Need-write-requires
+write-requires c κs =
+    let w = c .before .before .before .before .before in
+    let s = w .before .before .before .before .before in
+    let B = bookIn (s .args .book .now) (s .args .h) in
+    let held = w .before .before .held-by .ensures in
+    let n = c .before .before .before .n .given .1 in
+    (s .pre .0, (walk-of B _ (s .pre .1) held (s .args .buffer .now) (w .sized .ensures) n, fits-in B _ (s .pre .1) held (s .args .buffer .now) (w .sized .ensures) n (c .before .if1 .left)))
+
+enum-known-number : tie.Need-enum-known-number
+enum-known-number c = search needs
 
 same-length : tie.Need-same-length
 same-length c = search needs
 
 returns-2 : tie.Need-returns-2
-returns-2 c = search needs
+returns-2 c =
+    let w = c .before .before .before .before .before .before .before .before in
+    let s = w .before .before .before .before .before in
+    end-written (bookIn (s .args .book .now) (s .args .h)) _ (s .pre .1) (w .before .before .held-by .ensures) _ (w .sized .ensures) (c .before .before .before .before .before .before .n .given .1) (c .before .before .before .before .if1 .left) (c .before .before .write .ensures)
+
+returns-3 : tie.Need-returns-3
+returns-3 c =
+    let w = c .before .before .before in
+    let s = w .before .before .before .before .before in
+    end-refused (bookIn (s .args .book .now) (s .args .h)) _ (s .pre .1) (w .before .before .held-by .ensures) _ (w .sized .ensures) (c .before .number .given .1)
 
 pub settle-spec : {M : Type 1} → statement M
 settle-spec =
     tie.close
     (tie.spec
-    units-at-requires
-    sub-own-energy
-    part-own-energy-start
-    part-own-energy-end
-    part-of-requires
-    own-energy-requires
-    sub-is-known
-    part-is-known-start
-    part-is-known-end
-    cast-is-known
-    is-known-requires
+    held-by-requires
+    sized-requires
+    enum-known-n
     returns
-    test-and-write-requires
+    write-requires
+    enum-known-number
     same-length
-    returns-2)
+    returns-2
+    returns-3)

@@ -30,10 +30,6 @@ const ROUNDS_ALONE: usize = 40;
 
 const MOST_LINES: usize = 2_152;
 
-/// The longest statement, in bytes. Most callers lend so much; one that lends less has
-/// its lines counted first.
-const LONGEST: usize = 24 + 24 * MOST_LINES;
-
 fn main() {
     let books = books::all();
     println!("{}", Times::HEADING);
@@ -41,11 +37,14 @@ fn main() {
         println!("{}", check(asked).row("check", asked));
     }
     for asked in &books {
-        println!("{}", statement(asked, LONGEST).row("statement", asked));
+        println!("{}", length(asked).row("length", asked));
     }
     for asked in &books {
-        let times = statement(asked, asked.statement().bytes.len());
-        println!("{}", times.row("statement, just room", asked));
+        println!("{}", statement(asked).row("statement", asked));
+    }
+    for asked in &books {
+        let times = length_and_statement(asked);
+        println!("{}", times.row("length and statement", asked));
     }
     for asked in &books {
         let statement = asked.statement();
@@ -58,6 +57,7 @@ fn main() {
         balances(asked);
     }
     costs();
+    length_of_check(&books);
     chosen_accounts(&books[2]);
     growth();
     stack::print(&books);
@@ -71,13 +71,51 @@ fn check(asked: &Asked) -> Times {
     )
 }
 
-fn statement(asked: &Asked, room: usize) -> Times {
+fn length(asked: &Asked) -> Times {
     let (book, account) = (&asked.bytes[..], asked.account);
-    let mut theirs = vec![0; room];
-    let mut ours = theirs.clone();
+    let theirs = library::length(book, account);
+    assert_eq!(theirs, fast::length(book, account), "{}", asked.name);
+    side_by_side(
+        || fervolatro::length(black_box(book), account).is_ok(),
+        || fast::length(black_box(book), account).is_ok(),
+    )
+}
+
+/// A buffer for the account's statement, of just its length.
+fn just_room(asked: &Asked) -> Vec<u8> {
+    let length = fervolatro::length(&asked.bytes, asked.account);
+    vec![0; length.expect("the account is known")]
+}
+
+fn statement(asked: &Asked) -> Times {
+    let (book, account) = (&asked.bytes[..], asked.account);
+    let [mut theirs, mut ours] = [just_room(asked), just_room(asked)];
     let times = side_by_side(
         || fervolatro::statement_into(black_box(book), account, black_box(&mut theirs)).is_ok(),
         || fast::statement(black_box(book), account, black_box(&mut ours)).is_ok(),
+    );
+    assert!(theirs == ours, "{}: they write differently", asked.name);
+    times
+}
+
+/// Both calls, as a caller makes them who asks first: the statement goes into as much of
+/// the buffer as the length says.
+fn length_and_statement(asked: &Asked) -> Times {
+    let (book, account) = (&asked.bytes[..], asked.account);
+    let [mut theirs, mut ours] = [just_room(asked), just_room(asked)];
+    let times = side_by_side(
+        || {
+            fervolatro::length(black_box(book), account).is_ok_and(|length| {
+                let room = black_box(&mut theirs[..length]);
+                fervolatro::statement_into(black_box(book), account, room).is_ok()
+            })
+        },
+        || {
+            fast::length(black_box(book), account).is_ok_and(|length| {
+                let room = black_box(&mut ours[..length]);
+                fast::statement(black_box(book), account, room).is_ok()
+            })
+        },
     );
     assert!(theirs == ours, "{}: they write differently", asked.name);
     times
@@ -202,6 +240,23 @@ fn base_cost(asked: &Rows) -> Times {
     )
 }
 
+/// The library's length beside its own check, which is the most of it: on the two largest
+/// books at most 1.2 of the check's time are allowed.
+fn length_of_check(books: &[Asked]) {
+    println!("\nlength of check, both the library's");
+    println!("book                              bytes     length ns      check ns  ratio");
+    for asked in books {
+        let (book, account) = (&asked.bytes[..], asked.account);
+        let times = side_by_side(
+            || fervolatro::length(black_box(book), account).is_ok(),
+            || fervolatro::check(black_box(book)).is_ok(),
+        );
+        let (name, bytes) = (&asked.name, book.len());
+        let (length, check, ratio) = (times.library, times.beside, times.ratio());
+        println!("{name:<32} {bytes:>6} {length:>13.1} {check:>13.1} {ratio:>6.2}");
+    }
+}
+
 /// The library's average balance of books whose accounts are chosen against its count of
 /// them, and how many times that is of an ordinary book of the same size: 20 at most are
 /// allowed. The first ten bits alike make one chain of the hash table that the library
@@ -250,7 +305,7 @@ fn growth() {
     for sizes in by_energies.into_iter().chain(by_units) {
         let asked = books::of(sizes);
         println!("{}", check(&asked).row("check", &asked));
-        println!("{}", statement(&asked, LONGEST).row("statement", &asked));
+        println!("{}", statement(&asked).row("statement", &asked));
         let pool = fullest(&asked.bytes, Kind::Contingency).expect("there is one");
         println!(
             "{}",

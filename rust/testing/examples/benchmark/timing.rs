@@ -10,25 +10,26 @@ use super::books::Asked;
 const ROUND: Duration = Duration::from_micros(400);
 const ROUNDS: usize = 120;
 
-/// Nanoseconds per call.
+/// Nanoseconds per call: of the library's, and of the one beside it, which is the fast
+/// version's where nothing else is said.
 #[derive(Clone, Copy)]
 pub struct Times {
-    library: f64,
-    fast: f64,
+    pub library: f64,
+    pub beside: f64,
 }
 
 /// The least time of each call over rounds of both by turns. A call tells whether it
 /// was accepted, and has to be.
-pub fn side_by_side(mut library: impl FnMut() -> bool, mut fast: impl FnMut() -> bool) -> Times {
+pub fn side_by_side(mut library: impl FnMut() -> bool, mut beside: impl FnMut() -> bool) -> Times {
     let mut times = Times {
         library: f64::INFINITY,
-        fast: f64::INFINITY,
+        beside: f64::INFINITY,
     };
     let library_calls = calls_of_a_round(&mut library);
-    let fast_calls = calls_of_a_round(&mut fast);
+    let calls_beside = calls_of_a_round(&mut beside);
     for _ in 0..ROUNDS {
         times.library = times.library.min(round(&mut library, library_calls));
-        times.fast = times.fast.min(round(&mut fast, fast_calls));
+        times.beside = times.beside.min(round(&mut beside, calls_beside));
     }
     times
 }
@@ -62,11 +63,11 @@ impl Sum for Times {
     fn sum<I: Iterator<Item = Times>>(times: I) -> Self {
         let none = Times {
             library: 0.0,
-            fast: 0.0,
+            beside: 0.0,
         };
         times.fold(none, |sum, times| Times {
             library: sum.library + times.library,
-            fast: sum.fast + times.fast,
+            beside: sum.beside + times.beside,
         })
     }
 }
@@ -80,8 +81,13 @@ impl Times {
     pub fn divided_by(self, calls: usize) -> Self {
         Times {
             library: self.library / calls as f64,
-            fast: self.fast / calls as f64,
+            beside: self.beside / calls as f64,
         }
+    }
+
+    /// The library's time to the one beside it: 1 and below is as fast.
+    pub fn ratio(&self) -> f64 {
+        self.library / self.beside
     }
 
     /// A row of the table, for a book or a statement.
@@ -89,17 +95,16 @@ impl Times {
         self.row_of(call, &asked.name, asked.bytes.len())
     }
 
-    /// A row of the table, for so many bytes of this name. The ratio is library to fast: 1
-    /// and below is as fast.
+    /// A row of the table, for so many bytes of this name.
     pub fn row_of(&self, call: &str, name: &str, bytes: usize) -> String {
-        let Times { library, fast } = *self;
+        let (library, fast) = (self.library, self.beside);
         // Bytes per nanosecond are thousands of megabytes per second.
         let rate = |time: f64| 1_000.0 * bytes as f64 / time;
         format!(
             "{call:<21} {name:<23} {bytes:>7} {library:>13.1} {fast:>13.1} {:>13.0} {:>10.0} {:>6.2}",
             rate(library),
             rate(fast),
-            library / fast
+            self.ratio()
         )
     }
 }

@@ -17,4 +17,4 @@ pub use balance::balance;
 pub use check::check;
 pub use dispatch::{base_cost, payment};
 pub use lines::{lines, Fields};
-pub use statement::statement;
+pub use statement::{length, statement};

@@ -1,17 +1,62 @@
-//! The statement of an account. Unit rows are passed once by the check, which counts
-//! the account's on the way, and once to write; the account's energy rows, side by
-//! side in their order, are found by binary search.
+//! The statement of an account, and its length. Unit rows are passed once by the check,
+//! which counts the account's on the way, and once to write; the account's energy rows,
+//! side by side in their order, are found by binary search.
 
 use std::slice::IterMut;
 
-use super::check::{checked, factors, totals, Totals};
+use super::check::{checked, factors, refuse_unless, totals, Totals};
 use super::layout::{i32_at, size_at, u32_at, u64_at, Sections};
 use super::shares::{halves, share, Pools};
 use crate::Refusal;
 
-/// 12 is not looked for: no line can pass the limit, as a share of a pool is at most
-/// the pool.
+pub fn length(book: &[u8], account: u32) -> Result<usize, Refusal> {
+    Ok(counted(book, account)?.length())
+}
+
 pub fn statement(book: &[u8], account: u32, buffer: &mut [u8]) -> Result<usize, Refusal> {
+    let counted = counted(book, account)?;
+    let Counted {
+        sections,
+        rows,
+        lines,
+    } = &counted;
+    let Some((header, slots)) = buffer.get_mut(..counted.length()).and_then(halved) else {
+        return Err(Refusal {
+            number: 13,
+            place: 0,
+        });
+    };
+    *header = header_of(sections, account, *lines);
+    Settling {
+        totals: totals(sections),
+        own: own_energy(rows),
+        account,
+        slots: slots.iter_mut(),
+    }
+    .write(sections);
+    Ok(counted.length())
+}
+
+/// An accepted book that knows the account: its sections, the account's energy rows, and
+/// how many lines its statement has.
+struct Counted<'b> {
+    sections: Sections<'b>,
+    rows: &'b [[u8; 24]],
+    lines: usize,
+}
+
+impl Counted<'_> {
+    /// How many bytes the statement has.
+    #[inline(always)]
+    fn length(&self) -> usize {
+        24 + 24 * self.lines
+    }
+}
+
+/// Looks for 1 to 11. 12 is not looked for: no line can pass the limit, as a share of a
+/// pool is at most the pool.
+#[inline(always)]
+fn counted(book: &[u8], account: u32) -> Result<Counted<'_>, Refusal> {
     let mut unit_lines = 0;
     let sections = checked(book, |owner, mode| {
         unit_lines += if owner == account {
@@ -20,24 +65,13 @@ pub fn statement(book: &[u8], account: u32, buffer: &mut [u8]) -> Result<usize, 
             0
         };
     })?;
-    let refused = |number| Err(Refusal { number, place: 0 });
     let rows = own_energy_rows(sections.energies, account);
-    if unit_lines == 0 && rows.is_empty() {
-        return refused(11);
-    }
-    let lines = unit_lines + common_lines(&sections);
-    let Some((header, slots)) = buffer.get_mut(..24 + 24 * lines).and_then(halved) else {
-        return refused(13);
-    };
-    *header = header_of(&sections, account, lines);
-    Settling {
-        totals: totals(&sections),
-        own: own_energy(rows),
-        account,
-        slots: slots.iter_mut(),
-    }
-    .write(&sections);
-    Ok(24 + 24 * lines)
+    refuse_unless(unit_lines != 0 || !rows.is_empty(), 11, 0)?;
+    Ok(Counted {
+        sections,
+        rows,
+        lines: unit_lines + common_lines(&sections),
+    })
 }
 
 /// The header and the lines of a statement.

@@ -4,6 +4,7 @@
 //! The same seed gives the same run; the environment variable FERVOLATRO_SEED sets
 //! another one. A difference is told with the seed, the sort of inputs and the input.
 
+mod lengths;
 pub mod lent;
 mod question;
 pub mod report;

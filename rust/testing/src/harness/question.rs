@@ -9,6 +9,7 @@ use crate::{library, reference, Balance, Entry, Heading, Refusal};
 #[derive(Clone, Copy, Debug)]
 pub enum Call {
     Check,
+    Length { account: u32 },
     Statement { account: u32, room: usize },
     WholeStatement { account: u32 },
     Balance { pool: u64 },
@@ -33,10 +34,19 @@ impl Call {
         }
     }
 
+    /// Whose statement is asked for, if one is.
+    pub(super) fn statement_of(self) -> Option<u32> {
+        match self {
+            Call::Statement { account, .. } | Call::WholeStatement { account } => Some(account),
+            _ => None,
+        }
+    }
+
     /// The name under which its answers are counted.
     pub fn name(self) -> &'static str {
         match self {
             Call::Check => "check",
+            Call::Length { .. } => "length",
             Call::Statement { .. } => "statement",
             Call::WholeStatement { .. } => "whole statement",
             Call::Balance { .. } => "balance",
@@ -87,6 +97,7 @@ macro_rules! side {
             name: stringify!($of),
             ask: |call, bytes, buffer| match call {
                 Call::Check => $of::check(bytes).map(|()| Answer::Nothing),
+                Call::Length { account } => $of::length(bytes, account).map(Answer::Length),
                 Call::Statement { account, .. } => {
                     $of::statement(bytes, account, buffer).map(Answer::Length)
                 }
@@ -120,6 +131,7 @@ pub const FAST: Side = Side {
     name: "fast",
     ask: |call, bytes, buffer| match call {
         Call::Check => fast::check(bytes).map(|()| Answer::Nothing),
+        Call::Length { account } => fast::length(bytes, account).map(Answer::Length),
         Call::Statement { account, .. } => {
             fast::statement(bytes, account, buffer).map(Answer::Length)
         }

@@ -105,8 +105,9 @@ impl Run {
     }
 
     /// Puts the question to the tested side and to the reference. Answers and whole
-    /// buffers have to be the same, and the bytes around a buffer untouched. Gives the
-    /// answer, and what the buffer then holds.
+    /// buffers have to be the same, and the bytes around a buffer untouched. With a
+    /// statement its length is asked for too. Gives the answer, and what the buffer then
+    /// holds.
     pub fn compare_into(&mut self, call: Call, bytes: &[u8]) -> (Given, Lent) {
         let mut theirs = Lent::new(call.room(), self.random.bits() as u8);
         let mut ours = theirs.clone();
@@ -120,6 +121,7 @@ impl Run {
             theirs.first_difference(&ours),
             shown(bytes)
         );
+        self.compare_length(call, bytes, &tested);
         (tested, theirs)
     }
 
@@ -216,9 +218,12 @@ mod tests {
         }
     }
 
+    /// What the worked book is asked for and gives: with the statement its length.
+    const GIVEN: &[(&str, &[usize])] = &[("statement", &[0]), ("length", &[0])];
+
     #[test]
     fn what_agrees_passes() {
-        run_of(LIBRARY).finish(&wanted(&[("statement", &[0])]));
+        run_of(LIBRARY).finish(&wanted(GIVEN));
     }
 
     /// The message has the seed, the family, the question and both answers.
@@ -246,11 +251,24 @@ mod tests {
     }
 
     #[test]
+    #[should_panic(expected = "Length { account: 7 }: long Ok(Length(336)), \
+                               reference Ok(Length(312))")]
+    fn another_length_is_a_difference() {
+        run_of(Side {
+            name: "long",
+            ask: |call, bytes, buffer| match call {
+                Call::Length { .. } => Ok(Answer::Length(336)),
+                _ => (LIBRARY.ask)(call, bytes, buffer),
+            },
+        });
+    }
+
+    #[test]
     #[should_panic(expected = "no input of 'nothing'")]
     fn a_family_without_inputs_is_missed() {
         let mut run = run_of(LIBRARY);
         run.enter("nothing", |_| ());
-        run.finish(&wanted(&[("statement", &[0])]));
+        run.finish(&wanted(GIVEN));
     }
 
     #[test]
@@ -258,26 +276,34 @@ mod tests {
     fn inputs_are_missed() {
         run_of(LIBRARY).finish(&Wanted {
             inputs: 2,
-            ..wanted(&[("statement", &[0])])
+            ..wanted(GIVEN)
         });
     }
 
     #[test]
     #[should_panic(expected = "statement: 13 came 0 times")]
     fn an_answer_is_missed() {
-        run_of(LIBRARY).finish(&wanted(&[("statement", &[0, 13])]));
+        run_of(LIBRARY).finish(&wanted(&[("statement", &[0, 13]), ("length", &[0])]));
     }
 
     #[test]
     #[should_panic(expected = "statement: 0 came 1 times")]
     fn an_answer_that_is_not_wanted_is_seen() {
-        run_of(LIBRARY).finish(&wanted(&[("statement", &[])]));
+        run_of(LIBRARY).finish(&wanted(&[("statement", &[]), ("length", &[0])]));
     }
 
     #[test]
     #[should_panic(expected = "the calls that were asked")]
     fn a_call_is_missed() {
-        run_of(LIBRARY).finish(&wanted(&[("statement", &[0]), ("check", &[0])]));
+        let with_check: &[(&str, &[usize])] =
+            &[("statement", &[0]), ("length", &[0]), ("check", &[0])];
+        run_of(LIBRARY).finish(&wanted(with_check));
+    }
+
+    #[test]
+    #[should_panic(expected = "the calls that were asked")]
+    fn a_call_that_is_not_wanted_is_seen() {
+        run_of(LIBRARY).finish(&wanted(&[("statement", &[0])]));
     }
 
     #[test]
@@ -287,7 +313,7 @@ mod tests {
         run.see("halves");
         run.finish(&Wanted {
             seen: vec![("halves".to_owned(), 2)],
-            ..wanted(&[("statement", &[0])])
+            ..wanted(GIVEN)
         });
     }
 }

@@ -3,6 +3,7 @@
 
 use super::run::{Run, Units};
 use crate::book::Book;
+use crate::reference;
 use crate::requests::accounts::{self, named, share_units, spread};
 use crate::requests::damage::turn_bit;
 use crate::requests::faults::{self, Spot};
@@ -61,6 +62,16 @@ impl Run {
     /// An account that is there if there are any, at times one beside it or 0.
     pub fn some_account(&mut self, book: &Book) -> u32 {
         accounts::some_account(&mut self.random, book)
+    }
+
+    /// Room for an account's statement: just its length, one byte less, or any below
+    /// `most`; the last where there is no statement.
+    pub fn some_room(&mut self, bytes: &[u8], account: u32, most: usize) -> usize {
+        let any = self.random.below(most);
+        match reference::length(bytes, account) {
+            Ok(length) => *self.random.pick(&[length, length - 1, any]),
+            Err(_) => any,
+        }
     }
 
     /// Each fault, so many times in the first, the middle and the last record that can

@@ -17,7 +17,7 @@ pub use check::check;
 pub use dispatch::{base_cost, costs, payment, Costs};
 pub use listing::{listed, listing};
 pub use reading::{header, line, lines, read, rewrite, unpack, whole_rewrite};
-pub use statement::{settle, statement, whole_statement};
+pub use statement::{length, settle, statement, whole_statement};
 
 use crate::Refusal;
 

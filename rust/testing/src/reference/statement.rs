@@ -1,4 +1,5 @@
-//! The statement of one account: refusals 1 to 13, the lines in their order.
+//! The statement of one account, and its length: refusals 1 to 13, the lines in their
+//! order.
 
 use super::amounts::{contingency_by_ace, contingency_by_asoe, Energy, Halves, Settled};
 use super::{check, refuse_unless};
@@ -9,7 +10,15 @@ use crate::Refusal;
 /// "A line would pass 50,000,000,000 either way."
 const LINE_LIMIT: i64 = 50_000_000_000;
 
-/// "A statement then looks for 11, 12, 13."
+/// "Make two operations of it: one answers the length for an account, the other writes."
+/// "The first gives 1 to 12." "Header, 24 bytes"; a line has as many.
+pub fn length(bytes: &[u8], account: u32) -> Result<usize, Refusal> {
+    let statement = settle(bytes, account)?;
+    Ok(24 + 24 * statement.lines.len())
+}
+
+/// "A statement then looks for 11, 12, 13." "Each does its own checks": nothing that was
+/// asked for before counts.
 pub fn statement(bytes: &[u8], account: u32, buffer: &mut [u8]) -> Result<usize, Refusal> {
     write(&settle(bytes, account)?, buffer)
 }

@@ -30,7 +30,7 @@ const ALL_FUNCTIONS: &str = "every public function";
 /// are changed by hand, where the rules change or a request lands.
 const WORDS: [(&str, usize, u64); 2] = [
     (RULES, 9_626, 10_010_506_665_584_404_658),
-    (REQUESTS, 862, 16_462_503_571_502_602_647),
+    (REQUESTS, 1_167, 9_076_768_863_468_954_858),
 ];
 
 /// Rows with a cell empty or with something in it that is not there.
