@@ -30,7 +30,7 @@ pub fn answer(v: Verdict) -> VerdictAnswer
     }
 }
 
-// `fervolatro_written`: refusal 0 is success, and then length is how many bytes were written.
+// `fervolatro_written`: refusal 0 is success, and then length is how many bytes were written, or how many there will be.
 #[repr(C)]
 pub struct WrittenAnswer {
     pub refusal: u64,

@@ -9,7 +9,7 @@ use lib.Dec.{leb}
 use lib.ListN.{length}
 use Rattle.ground.specs.Bytes.{AreBytes}
 use Rattle.ground.specs.Put.{put}
-use Rattle.sections.proofs.Cases.{zero-one}
+use Rattle.sections.proofs.Cases.{no-yes}
 use Rattle.accounts.specs.Account.{publicOf, rowsOfAccount}
 use Rattle.sharing.specs.Once.{has}
 use Rattle.book.specs.Book.{bookOf}
@@ -60,12 +60,9 @@ asked-first (gives xs) l r s x a c = by (leb (length xs) (length l)) refl (c .an
 
 -- ---- how long it is
 
-never : {A : Type 0} → _≡_ {A = Bool} false true → A
-never e = absurd (zero-one cc)
-
 long : (b : List ℕ) → AreBytes b → (account : ℕ) (o : Outcome) → outcome b account ≡ o → (r : WrittenAnswer) → r ≡ writtenAnswer (lengthFor o) → r .refusal ≡ 0 → AsLongAsTheGuides b account r
 unfolding lengthFor writtenAnswer has
-long b bytes account (refuses number place) e r a z = never (rw (sym (ap (λ (w : WrittenAnswer). w .refusal) a) ∙ z) at (outcome-numbers b account number place e))
+long b bytes account (refuses number place) e r a z = absurd (no-yes refl (rw (sym (ap (λ (w : WrittenAnswer). w .refusal) a) ∙ z) at (outcome-numbers b account number place e)))
 long b bytes account (gives xs) e r a z =
     let s = passed b account xs e in
     ap (λ (w : WrittenAnswer). w .length) a

@@ -38,8 +38,8 @@ use Rattle.settlement.proofs.Settled.{settled-unknown, settled-over, se
 use Rattle.settlement.proofs.Owned.{Owned, own-of}
 
 -- what the definition gives for an account of a book
-abbrev of : Book → ℕ → Outcome
-of B account = settled account (publicOf B) (rowsOfAccount B account)
+abbrev settledIn : Book → ℕ → Outcome
+settledIn B account = settled account (publicOf B) (rowsOfAccount B account)
 
 module _ (B : Book) (account : ℕ) (p : Promise B) {held : Held} (f : HeldIs (B .energy) (B .header .energies) account held) where
   -- ---- the length: 11, 12, and the lines counted
@@ -54,7 +54,7 @@ module _ (B : Book) (account : ℕ) (p : Promise B) {held : Held} (f : HeldIs (B
         neither false true = refl
         neither false false = refl
 
-    pub size-11 : not known ≡ true → written.Refused 11 0 ≡ lengthFor (of B account)
+    pub size-11 : not known ≡ true → written.Refused 11 0 ≡ lengthFor (settledIn B account)
     size-11 t = length-refused 11 0 _ (settled-unknown account (publicOf B) (rowsOfAccount B account) (unknown-is ∙ t))
 
     module _ (t : not known ≡ false) {over : Bool} (e : over ≡ bookOver B) where
@@ -64,10 +64,10 @@ module _ (B : Book) (account : ℕ) (p : Promise B) {held : Held} (f : HeldIs (B
       over-told : over ≡ anyOver (linesOf (publicOf B) (rowsOfAccount B account))
       over-told = e ∙ over-is B p (held .own) (owned .walk) account ∙ ap anyOver (sym (owned .lines))
 
-      pub size-12 : over ≡ true → written.Refused 12 0 ≡ lengthFor (of B account)
+      pub size-12 : over ≡ true → written.Refused 12 0 ≡ lengthFor (settledIn B account)
       size-12 o = length-refused 12 0 _ (settled-over account (publicOf B) (rowsOfAccount B account) (owned .known) (sym over-told ∙ o))
 
-      pub size-counted : over ≡ false → {n : ℕ} → ((own : Totals) → n ≡ 24 + length (bookLines B account own) * 24) → Length n ≡ lengthFor (of B account)
+      pub size-counted : over ≡ false → {n : ℕ} → ((own : Totals) → n ≡ 24 + length (bookLines B account own) * 24) → Length n ≡ lengthFor (settledIn B account)
       size-counted o {n} c =
           let long = statement-long account (publicOf B) (rowsOfAccount B account) in
           length-given _ _ (settled-gives account (publicOf B) (rowsOfAccount B account) (owned .known) (sym over-told ∙ o)) n
@@ -75,12 +75,12 @@ module _ (B : Book) (account : ℕ) (p : Promise B) {held : Held} (f : HeldIs (B
 
   -- ---- the writing, once the length is told
 
-  module _ (l : List ℕ) {w : Written} (q : w ≡ lengthFor (of B account)) where
-    pub end-refused : {number place : ℕ} → w ≡ written.Refused number place → Lent (of B account) l (written.Refused number place) l
+  module _ (l : List ℕ) {w : Written} (q : w ≡ lengthFor (settledIn B account)) where
+    pub end-refused : {number place : ℕ} → w ≡ written.Refused number place → Lent (settledIn B account) l (written.Refused number place) l
     end-refused e = lent-refused _ _ _ l (refused-length _ _ _ (sym e ∙ q))
 
     module _ {n : ℕ} (e : w ≡ Length n) where
-      told : Long (of B account) n
+      told : Long (settledIn B account) n
       told = long-given _ n (sym e ∙ q)
 
       passed : Settled account (publicOf B) (rowsOfAccount B account) (told .bytes)
@@ -98,7 +98,7 @@ module _ (B : Book) (account : ℕ) (p : Promise B) {held : Held} (f : HeldIs (B
       unfolding wholeOf
       long-is = told .long ∙ ap length bytes-are ∙ statement-length (headingIn account B (length (bookLines B account (held .own)))) (bookLines B account (held .own))
 
-      pub end-13 : length l < n → Lent (of B account) l (written.Refused 13 0) l
+      pub end-13 : length l < n → Lent (settledIn B account) l (written.Refused 13 0) l
       end-13 h = lent-short _ (told .bytes) (told .given) l (omega (arith, told .long))
 
       pub walk-of : Walkable B (held .own)
@@ -107,7 +107,7 @@ module _ (B : Book) (account : ℕ) (p : Promise B) {held : Held} (f : HeldIs (B
       pub fits-in : n ≤ length l → Fits (bookLines B account (held .own)) (length l)
       fits-in h = record { few = owned-then .few; room = omega (arith, long-is) }
 
-      pub end-written : n ≤ length l → {b : List ℕ} {m : ℕ} → Wrote l 0 (wholeOf account B (held .own)) b m → Lent (of B account) l (Length m) b
+      pub end-written : n ≤ length l → {b : List ℕ} {m : ℕ} → Wrote l 0 (wholeOf account B (held .own)) b m → Lent (settledIn B account) l (Length m) b
       end-written h w =
           lent-written _ (wholeOf account B (held .own)) (told .given ∙ ap gives bytes-are) l _ (omega (arith, w .next))
           (omega (arith, told .long, ap length bytes-are)) (w .bytes)
@@ -130,12 +130,12 @@ module _ (b : List ℕ) (account : ℕ) {v : Verdict} (q : v ≡ verdict b) wher
       pub promised-in : Promise (bookIn b h)
       promised-in = rw i (given .promise)
 
-      outcome-settled : of (bookIn b h) account ≡ outcome b account
+      outcome-settled : settledIn (bookIn b h) account ≡ outcome b account
       unfolding outcome outcomeIf
       outcome-settled = rw (sym q ∙ e, i)
 
-      pub size-settled : {r : Written} → r ≡ lengthFor (of (bookIn b h) account) → r ≡ lengthFor (outcome b account)
+      pub size-settled : {r : Written} → r ≡ lengthFor (settledIn (bookIn b h) account) → r ≡ lengthFor (outcome b account)
       size-settled w = w ∙ ap lengthFor outcome-settled
 
-      pub end-settled : {l : List ℕ} {r : Written} {d : List ℕ} → Lent (of (bookIn b h) account) l r d → Lent (outcome b account) l r d
+      pub end-settled : {l : List ℕ} {r : Written} {d : List ℕ} → Lent (settledIn (bookIn b h) account) l r d → Lent (outcome b account) l r d
       end-settled {l} {r} {d} w = subst (λ (o : Outcome). Lent o l r d) outcome-settled w

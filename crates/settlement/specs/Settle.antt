@@ -59,7 +59,7 @@ headingOf account public n = record { account = account; date = public .date; in
 unfoldable pub statementOf : ℕ → Public → Rows → List ℕ
 statementOf account public rows = statementBytes (headingOf account public (length (linesOf public rows))) (linesOf public rows)
 
--- ---- what the call answers and leaves
+-- ---- what the two calls answer, and what the one that writes leaves: `lengthFor`, `answerFor` and `leftIn` of this (statement/specs/Lent.antt)
 
 -- 11: "no unit row and no energy row names the account"; 12: "a line would pass 50,000,000,000 either way"
 unfoldable pub settled : ℕ → Public → Rows → Outcome

@@ -28,7 +28,7 @@ pub struct Line {
     pub amount: i64,
 }
 
-// What a call that writes a statement answers: how many bytes it wrote, or the refusal's number and place.
+// What a call that writes a statement answers, or one that tells its length: how many bytes it has, or the refusal's number and place.
 pub enum Written {
     Length(usize),
     Refused(u8, usize),
