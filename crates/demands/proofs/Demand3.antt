@@ -12,7 +12,7 @@ use Rattle.accounts.specs.Account.{Public, publicOf}
 use Rattle.settlement.specs.Settle.{outcome}
 use Rattle.answers.specs.declared.WrittenAnswer.{WrittenAnswer}
 use Rattle.demands.specs.Demand1.{LengthCall}
-use Rattle.demands.specs.Demand3.{Agree, NoNeighboursFigure, costless, costlessPublic, AgreeButForCosts, costsIn, Way, asPayment, asBaseCost, madeFrom, CostsMade, CostsArePublic}
+use Rattle.demands.specs.Demand3.{Agree, NoNeighboursFigure, costless, costlessPublic, AgreeButForCosts, costsIn, Way, asPayment, asBaseCost, madeFrom, CostsArePublic}
 
 -- the outcome of one account is the same in both books
 same-outcome : (b c : List ℕ) (account : ℕ) → Agree b c account → outcome b account ≡ outcome c account

@@ -22,7 +22,6 @@ use Rattle.trips.proofs.Call.{passed}
 use Rattle.guide.proofs.Guide.{every-line-is-the-guides}
 use Rattle.answers.specs.Answers.{writtenAnswer, Called}
 use Rattle.answers.specs.declared.WrittenAnswer.{WrittenAnswer}
-use Rattle.demands.specs.Demand1.{Refuses}
 use Rattle.demands.specs.Length.{AskedFirst, AsLongAsTheGuides, LengthIsTheStatements}
 use Rattle.demands.proofs.Numbers.{outcome-numbers}
 

@@ -1,7 +1,7 @@
 -- What the demands come to, said once more and without their definitions, so that a demand that says less is refused here. Assumes nothing.
 use Prim.Native.Nat.{ℕ, _+_, _*_, _≤_, _<_}
 use mathlib.Core.Path.{_≡_, refl, ap, _∙_}
-use mathlib.Core.Logic.{_⊎_, inl, inr}
+use mathlib.Core.Logic.{inl, inr}
 use mathlib.Core.Bool.{Bool, true, false, _||_}
 use mathlib.Core.List.{List, [], _∷_}
 use native.Mathlib.Omega.{arith}
@@ -11,7 +11,7 @@ use lib.IntN.{ℤ, natAbs, _+ℤ_}
 use lib.ListN.{length}
 use Rattle.sections.specs.declared.Verdict.the-variants.{Accepted}
 use Rattle.sections.proofs.Cases.{zero-one}
-use Rattle.ground.specs.Bytes.{i64At}
+use Rattle.ground.specs.Bytes.{AreBytes, i64At}
 use Rattle.ground.specs.Inner.Each.{Each}
 use Rattle.book.specs.Book.{bookOf}
 use Rattle.book.specs.Table.{verdict}
@@ -20,6 +20,7 @@ use Rattle.sharing.specs.Once.{has}
 use Rattle.statement.specs.Lent.{Outcome, lengthFor}
 use Rattle.reading.specs.Calls.{headingRead, lineRead}
 use Rattle.settlement.specs.Settle.{outcome}
+use Rattle.guide.specs.Guide.{guideLines}
 use Rattle.answers.specs.Answers.{writtenAnswer, headingAnswer, entryAnswer, Called}
 use Rattle.answers.specs.declared.WrittenAnswer.{WrittenAnswer}
 use Rattle.answers.specs.declared.EntryAnswer.{EntryAnswer}
@@ -27,7 +28,7 @@ use Rattle.answers.specs.declared.PoolAnswer.{PoolAnswer}
 use Rattle.answers.specs.declared.CostAnswer.{CostAnswer}
 use Rattle.demands.specs.Demand1.{onABook, onALength, onDispatchRows, OneOf, Answered, written, short, refused, LengthAnswered, CostAnswered}
 use Rattle.demands.specs.Demand2.{front, LinesAreTheLineCalls, PoolCloses}
-use Rattle.demands.specs.Demand3.{costlessPublic, costsIn, Way, CostsMade}
+use Rattle.demands.specs.Demand3.{costlessPublic, Way, CostsMade}
 use Rattle.demands.specs.Length.{AskedFirst}
 use Rattle.demands.proofs.Length.{length-is-the-statements}
 use Rattle.demands.proofs.Demand3.{no-neighbours-figure, costs-are-public}
@@ -136,6 +137,10 @@ module _ (b : List ℕ) (account : ℕ) (l : List ℕ) (r s : WrittenAnswer) (x 
   -- and back: what the writing call refuses by another number than 13, the length call refuses alike
   pub same-number-and-place-back : (s .refusal ≡ 0 → ⊥) → (s .refusal ≡ 13 → ⊥) → r ≡ s
   same-number-and-place-back z k = asked .back z k
+
+-- 24 bytes, and 24 for each line that the guide gives the account
+pub length-by-the-guide : (b : List ℕ) → AreBytes b → (account : ℕ) (r : WrittenAnswer) → r ≡ writtenAnswer (lengthFor (outcome b account)) → r .refusal ≡ 0 → r .length ≡ 24 + 24 * length (guideLines b account)
+length-by-the-guide b bytes account r p z = length-is-the-statements .lines b bytes account r p z
 
 -- ---- demand 2
 

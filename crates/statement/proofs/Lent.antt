@@ -13,7 +13,6 @@ use Rattle.ground.specs.Bytes.{part}
 use Rattle.ground.specs.Put.{put}
 use Rattle.ground.proofs.Put.{put-there}
 use Rattle.statement.specs.Lent.{Outcome, refuses, gives, lengthFor, answerFor, leftIn, Lent}
-use Rattle.statement.specs.declared.Written.{Written}
 use Rattle.statement.specs.declared.Written.the-variants.{Length, Refused}
 
 pub lent-refused : (number place : ℕ) (o : Outcome) (l : List ℕ) → o ≡ refuses number place → Lent o l (Refused number place) l

@@ -1,13 +1,12 @@
 -- What it says that the settlement call gives bytes, and what is then known of the account. Assumes nothing.
-use Prim.Native.Nat.{ℕ, zero, suc, _*_, _+_, _≤_, _<_}
+use Prim.Native.Nat.{ℕ, _*_, _+_, _≤_, _<_}
 use mathlib.Core.Path.{_≡_, refl, ap, _∙_}
-use mathlib.Core.Bool.{Bool, true, false, cond, not, _&&_}
+use mathlib.Core.Bool.{Bool, true, false, not, _&&_}
 use mathlib.Core.List.{List, [], _∷_}
 use mathlib.Core.Logic.{_⊎_, inl, inr, ⊎-elim}
 use native.Mathlib.Omega.{arith}
 use borrow.Author.Tests.{eqb-true}
 use lib.Dec.{eqb}
-use Rattle.sections.proofs.Cases.{zero-one}
 use Rattle.ground.specs.Bytes.{partFrom, AreBytes}
 use Rattle.ground.proofs.Back.{u32-small}
 use Rattle.ground.proofs.Part.{part-bytes}
@@ -28,7 +27,7 @@ use Rattle.accounts.specs.Account.{publicOf, rowsOfAccount, ownEnergy, unknown}
 use Rattle.accounts.specs.Inner.Held.{HeldIs}
 use Rattle.accounts.specs.declared.Held.{Held}
 use Rattle.accounts.proofs.Lists.{some-rows}
-use Rattle.statement.specs.Lent.{Outcome, refuses, gives}
+use Rattle.statement.specs.Lent.{Outcome, gives}
 use Rattle.lines.specs.Limit.{anyOver}
 use Rattle.settlement.specs.Settle.{linesOf, statementOf, settled, outcomeIf, outcome}
 use Rattle.settlement.proofs.Settled.{apart, settled-back}

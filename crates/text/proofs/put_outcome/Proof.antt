@@ -1,6 +1,5 @@
 -- `text::put_outcome` meets its contract: the statement, of the length that was told, or the refusal to tell it. Assumes nothing.
 use mathlib.Core.Path.{sym, _∙_}
-use native.Mathlib.Omega.{arith}
 use Rattle.text.proofs.Ends.{said-refused}
 use borrow.Author.Needs.{needs}
 use Rattle.text.proofs.put_outcome.Statement.{statement}
