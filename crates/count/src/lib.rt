@@ -65,7 +65,7 @@ fn one_if(test: bool) -> usize
     if test { 1 } else { 0 }
 }
 
-// How many unit rows are the account's. None is told apart by a branch, so that the longest statement's are counted in no time.
+// How many unit rows are the account's, counted without a branch.
 fn own_rows(units: &[u8], m: usize, account: u32) -> usize
     requires { ⌜ m * 20 ≤ length (now units) ⌝ }
     ensures { λ x. ⌜ (x ≡ total (ownRow (unitRow (now (units .entry))) account) m) × (x ≤ m) ⌝ }
