@@ -15,24 +15,27 @@ use records::rows::Constraint;
 use records::rows::Entry;
 use totals::entries::Totals;
 
-// The energy of one kind in region g.
-fn energy_in(t: Totals, basis: Basis, g: usize) -> u64
+// What an account has over a constraint's regions of the energy that its cost is shared by, and the total that the constraint divides by.
+pub struct Share {
+    pub own: u64,
+    pub total: u64,
+}
+
+// The energy of one kind in region g, of three lists.
+fn energy_in(ace: &[u64; 5], asoe: &[u64; 5], residual: &[u64; 5], basis: Basis, g: usize) -> u64
     requires { ⌜ g < 5 ⌝ }
-    ensures { λ x. ⌜ x ≡ entryBy basis (entryOf t g) ⌝ }
+    ensures { λ x. ⌜ x ≡ entryBy basis (entryOf (record { ace = now (ace .entry); asoe = now (asoe .entry); residual = now (residual .entry) }) g) ⌝ }
 {
-    let ace = t.ace;
-    let asoe = t.asoe;
-    let residual = t.residual;
     basis.pick(ace[g], asoe[g], residual[g])
 }
 
 // What region g counts for over a constraint's regions. Its energy is taken first, so that what is left is a choice and no branch: which regions a
 // constraint has, the processor's branch prediction would often guess wrong.
-fn counted(r: Constraint, t: Totals, g: usize) -> u64
+fn counted(r: Constraint, ace: &[u64; 5], asoe: &[u64; 5], residual: &[u64; 5], g: usize) -> u64
     requires { ⌜ g < 5 ⌝ }
-    ensures { λ x. ⌜ x ≡ countedIn r (entryOf t g) g ⌝ }
+    ensures { λ x. ⌜ x ≡ countedIn r (entryOf (record { ace = now (ace .entry); asoe = now (asoe .entry); residual = now (residual .entry) }) g) g ⌝ }
 {
-    let energy = energy_in(t, Basis::of(Service::of(r.service)), g);
+    let energy = energy_in(ace, asoe, residual, Basis::of(Service::of(r.service)), g);
     if Region::of(g as u8).is_in(r.mask) {
         energy
     } else {
@@ -40,15 +43,15 @@ fn counted(r: Constraint, t: Totals, g: usize) -> u64
     }
 }
 
-// The energy over a constraint's regions, of the kind that its cost is shared by: an account's, or that of all.
-pub fn over_regions(t: Totals, r: Constraint) -> u64
-    requires { ⌜ ((g : ℕ) → g < 5 → EntryRule (entryOf t g)) ⌝ }
-    ensures { λ x. ⌜ x ≡ overRegions (entryOf t) r ⌝ }
+// The energy over a constraint's regions, of the kind that its cost is shared by, of energies by region in three lists.
+fn over_regions(ace: &[u64; 5], asoe: &[u64; 5], residual: &[u64; 5], r: Constraint) -> u64
+    requires { ⌜ ((g : ℕ) → g < 5 → EntryRule (entryOf (record { ace = now ace; asoe = now asoe; residual = now residual }) g)) ⌝ }
+    ensures { λ x. ⌜ x ≡ overRegions (entryOf (record { ace = now (ace .entry); asoe = now (asoe .entry); residual = now (residual .entry) })) r ⌝ }
 {
     let mut sum: u64 = 0;
     let mut g = 0;
     while g < Region::COUNT {
-        sum += counted(r, t, g);
+        sum += counted(r, ace, asoe, residual, g);
         g += 1;
     }
     sum
@@ -62,7 +65,7 @@ fn entry_in(regions: &[u8], region: Region) -> Entry
     rows::entry_row(regions, region.number as usize)
 }
 
-// The five region entries, so that they are read once and not for each constraint.
+// The five region entries.
 pub fn totals_of(regions: &[u8]) -> Totals
     requires { ⌜ 60 ≤ length (now regions) ⌝ }
     ensures { λ t. ⌜ ((g : ℕ) → g < 5 → entryOf t g ≡ entryRow (now (regions .entry)) g) ⌝ }
@@ -103,5 +106,28 @@ pub fn divisor(regions: &[u8], r: Constraint) -> u64
     requires { ⌜ ((g : ℕ) → g < 5 → EntryRule (entryRow (now regions) g)) ⌝ }
     ensures { λ x. ⌜ x ≡ overRegions (entryRow (now (regions .entry))) r ⌝ }
 {
-    over_regions(totals_of(regions), r)
+    let t = totals_of(regions);
+    let ace = t.ace;
+    let asoe = t.asoe;
+    let residual = t.residual;
+    over_regions(&ace, &asoe, &residual, r)
+}
+
+// An account's energies by region are three lent lists.
+pub fn share_of(
+    regions: &[u8],
+    ace: &[u64; 5],
+    asoe: &[u64; 5],
+    residual: &[u64; 5],
+    r: Constraint,
+) -> Share
+    requires { ⌜ 60 ≤ length (now regions) ⌝ }
+    requires { ⌜ ((g : ℕ) → g < 5 → EntryRule (entryRow (now regions) g)) ⌝ }
+    requires { ⌜ ((g : ℕ) → g < 5 → EntryRule (entryOf (record { ace = now ace; asoe = now asoe; residual = now residual }) g)) ⌝ }
+    ensures { λ s. ⌜ (s .own ≡ overRegions (entryOf (record { ace = now (ace .entry); asoe = now (asoe .entry); residual = now (residual .entry) })) r) × (s .total ≡ overRegions (entryRow (now (regions .entry))) r) ⌝ }
+{
+    Share {
+        own: over_regions(ace, asoe, residual, r),
+        total: divisor(regions, r),
+    }
 }

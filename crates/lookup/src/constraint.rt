@@ -92,13 +92,15 @@ fn other_line(regions: &[u8], r: Constraint, own: Totals, i: usize) -> Line
     requires { ⌜ i < length (otherLines r (overRegions (entryOf own) r) (overRegions (entryRow (now regions)) r)) ⌝ }
     ensures { λ l. ⌜ nth (otherLines r (overRegions (entryOf own) r) (overRegions (entryRow (now (regions .entry))) r)) i ≡ found l ⌝ }
 {
-    let share = divisors::over_regions(own, r);
-    let total = divisors::divisor(regions, r);
+    let ace = own.ace;
+    let asoe = own.asoe;
+    let residual = own.residual;
+    let share = divisors::share_of(regions, &ace, &asoe, &residual, r);
     if r.mode == Mode::CONTINGENCY {
-        return make::contingency_line(r, share, total);
+        return make::contingency_line(r, share.own, share.total);
     }
     let x = pools::residual_of(r, pools::pools_of(r));
-    groups::rest_line(r, x, share, total, i)
+    groups::rest_line(r, x, share.own, share.total, i)
 }
 
 // The line of a number among those.

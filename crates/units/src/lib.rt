@@ -13,6 +13,7 @@ ghost use Rattle.emission.specs.Inner.Emitted.{Emitted, LineRoom};
 ghost use Rattle.units.specs.Inner.Done.{UnitsDone, LinesDone};
 use amounts::pools;
 use amounts::pools::Pools;
+use divisors::Share;
 use lines::make;
 use market::Mode;
 use records::rows;
@@ -43,12 +44,6 @@ fn own_unit(
 pub struct Cursor {
     pub next: usize,
     pub place: usize,
-}
-
-// An account's energy over a constraint's regions, and that of all.
-pub struct Share {
-    pub own: u64,
-    pub total: u64,
 }
 
 // The unit lines of one constraint, from the first of its unit rows on.

@@ -12,7 +12,6 @@ use book::header::Header;
 use records::rows;
 use totals::entries::Totals;
 use units::Cursor;
-use units::Share;
 
 // The lines of the n constraints. The cursor over the unit rows only moves forward.
 fn constraints(
@@ -31,15 +30,14 @@ fn constraints(
     requires { ⌜ LineRoom (now buf) place (length (joined (conLinesAt (entryRow (now regions)) (constraintRow (now cons)) (unitRow (now units)) m account own) n)) ⌝ }
     ensures { λ x. ⌜ Emitted (now (buf .entry)) place (joined (conLinesAt (entryRow (now (regions .entry))) (constraintRow (now (cons .entry))) (unitRow (now (units .entry))) m account own) n) (now (buf .exit)) x ⌝ }
 {
-    let all = divisors::totals_of(regions);
+    let ace = own.ace;
+    let asoe = own.asoe;
+    let residual = own.residual;
     let mut here = Cursor { next: 0, place };
     let mut j = 0;
     while j < n {
         let r = rows::constraint_row(cons, j);
-        let share = Share {
-            own: divisors::over_regions(own, r),
-            total: divisors::over_regions(all, r),
-        };
+        let share = divisors::share_of(regions, &ace, &asoe, &residual, r);
         here = units::constraint_lines(buf, units, m, here, r, share, account);
         j += 1;
     }

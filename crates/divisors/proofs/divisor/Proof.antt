@@ -8,10 +8,10 @@ totals-of-requires : tie.Need-totals-of-requires
 totals-of-requires c κs = search needs
 
 over-regions-requires : tie.Need-over-regions-requires
-over-regions-requires c κs = totals-rule (c .totals-of .result) _ (c .totals-of .ensures) (c .before .before .pre .1)
+over-regions-requires c κs = let t = c .before .before .before .before .before .before in totals-rule (t .totals-of .result) _ (t .totals-of .ensures) (t .before .before .pre .1)
 
 returns : tie.Need-returns
-returns c = divisor-read (c .before .totals-of .result) _ (c .before .totals-of .ensures) _ (c .over-regions .ensures)
+returns c = let t = c .before .before .before .before .before .before .before in divisor-read (t .totals-of .result) _ (t .totals-of .ensures) _ (c .over-regions .ensures)
 
 pub divisor-spec : {M : Type 1} → statement M
 divisor-spec = tie.close (tie.spec totals-of-requires over-regions-requires returns)

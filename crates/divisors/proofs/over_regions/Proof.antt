@@ -12,10 +12,10 @@ use Rattle.divisors.proofs.over_regions.Statement.{statement}
 use Rattle.divisors.proofs.over_regions.Tie as tie
 
 abbrev Inv-loop : tie.InvT-loop
-Inv-loop t r sum₀ g₀ sum g = (g ≤ 5) × (sum ≡ total (λ k. countedIn r (entryOf t k) k) g)
+Inv-loop ace asoe residual r sum₀ g₀ sum g = (g ≤ 5) × (sum ≡ total (λ k. countedIn r (entryOf (record { ace = ace; asoe = asoe; residual = residual }) k) k) g)
 
 abbrev μ-loop : tie.MeasureT-loop
-μ-loop t r sum₀ g₀ sum g = 5 - g
+μ-loop ace asoe residual r sum₀ g₀ sum g = 5 - g
 
 loop-holds : tie.Need-loop-holds Inv-loop μ-loop
 loop-holds c = (search needs, total-none _)

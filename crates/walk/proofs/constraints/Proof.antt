@@ -5,7 +5,6 @@ use Rattle.sections.specs.Inner.Walk.{Stands}
 use Rattle.sections.proofs.Walk.{stands-first, stands-next}
 use Rattle.records.specs.Rows.{entryRow, constraintRow, unitRow}
 use Rattle.factors.specs.Naming.{idOf, keyOf}
-use Rattle.totals.proofs.Turns.{totals-rule, divisor-read}
 use Rattle.accounts.specs.Rows.{joined}
 use Rattle.lines.specs.Inner.Walks.{conLinesAt}
 use Rattle.emission.specs.Inner.Emitted.{Emitted}
@@ -17,51 +16,44 @@ use Rattle.walk.proofs.constraints.Statement.{statement}
 use Rattle.walk.proofs.constraints.Tie as tie
 
 abbrev Inv-loop : tie.InvT-loop
-Inv-loop buf₀ place regions cons n units m own account all here₀ j₀ buf here j = (j ≤ n) × (Emitted buf₀ place (joined (conLinesAt (entryRow regions) (constraintRow cons) (unitRow units) m account own) j) buf (here .place) × (j < n → Stands (keyOf (unitRow units)) m (idOf (constraintRow cons) j) (here .next)))
+Inv-loop buf₀ place regions cons n units m account ace asoe residual here₀ j₀ buf here j = (j ≤ n) × (Emitted buf₀ place (joined (conLinesAt (entryRow regions) (constraintRow cons) (unitRow units) m account (record { ace = ace; asoe = asoe; residual = residual })) j) buf (here .place) × (j < n → Stands (keyOf (unitRow units)) m (idOf (constraintRow cons) j) (here .next)))
 
 abbrev μ-loop : tie.MeasureT-loop
-μ-loop buf₀ place regions cons n units m own account all here₀ j₀ buf here j = n - j
-
-totals-of-requires : tie.Need-totals-of-requires Inv-loop μ-loop
-totals-of-requires c κs = search needs
+μ-loop buf₀ place regions cons n units m account ace asoe residual here₀ j₀ buf here j = n - j
 
 loop-holds : tie.Need-loop-holds Inv-loop μ-loop
-loop-holds c = let s = c .before .before .before .before .before in (omega arith, (out-start _, λ l. stands-first _ _ _ _ (s .pre .1 .0 .rise) (s .pre .1 .0 .names) l))
+loop-holds c = let s = c .before .before .before .before .before .before .before in (omega arith, (out-start _, λ l. stands-first _ _ _ _ (s .pre .1 .0 .rise) (s .pre .1 .0 .names) l))
 
 constraint-row-requires : tie.Need-constraint-row-requires Inv-loop μ-loop
 constraint-row-requires c κs = omega arith
 
-over-regions-requires : tie.Need-over-regions-requires Inv-loop μ-loop
-over-regions-requires c κs = c .before .before .before .before .before .before .before .before .pre .1 .0 .energy
-
-over-regions-requires-2 : tie.Need-over-regions-requires-2 Inv-loop μ-loop
-over-regions-requires-2 c κs = let t = c .before .before .before .before in totals-rule (t .totals-of .result) _ (t .totals-of .ensures) (c .before .before .before .before .before .before .before .before .before .pre .1 .0 .entries)
+share-of-requires : tie.Need-share-of-requires Inv-loop μ-loop
+share-of-requires c κs = let s = c .before .before .before .before .before .before .before .before .before .before .before .before .before in (s .pre .0 .0, (s .pre .1 .0 .entries, s .pre .1 .0 .energy))
 
 constraint-lines-requires : tie.Need-constraint-lines-requires Inv-loop μ-loop
 constraint-lines-requires c κs =
-    let s = c .before .before .before .before .before .before .before .before .before .before .before in
-    let t = c .before .before .before .before .before .before in
-    let l = c .before .before .before .before .loop-test .taken in
-    let e = c .before .before .before .constraint-row .ensures in
-    let o = c .before .before .over-regions .ensures in
-    let d = divisor-read (t .totals-of .result) _ (t .totals-of .ensures) _ (c .before .over-regions2 .ensures) in
-    (s .pre .0 .1 .1, (s .pre .1 .0 .walked, (rw e (c .before .before .before .before .before .loop .inv .1 .1 l), (settles-at _ _ _ _ _ (s .args .account) _ _ e o d (s .pre .1 .0) l, con-room _ _ (s .args .n) _ _ _ _ _ e o d (out-room _ _ (c .before .before .before .before .before .loop .inv .1 .0) _ l (s .pre .1 .1))))))
+    let s = c .before .before .before .before .before .before .before .before .before .before .before .before .before .before .before in
+    let l = c .before .before .before .before .before .before .loop-test .taken in
+    let e = c .before .before .before .before .before .constraint-row .ensures in
+    let o = c .before .share-of .ensures .0 in
+    let d = c .before .share-of .ensures .1 in
+    let i = c .before .before .before .before .before .before .before .loop .inv .1 in
+    (s .pre .0 .1 .1, (s .pre .1 .0 .walked, (rw e (i .1 l), (settles-at _ _ _ _ _ (s .args .account) _ _ e o d (s .pre .1 .0) l, con-room _ _ (s .args .n) _ _ _ _ _ e o d (out-room _ _ (i .0) _ l (s .pre .1 .1))))))
 
 add-j : tie.Need-add-j Inv-loop μ-loop
-add-j c = omega arith
+add-j c = omega (arith, c .before .before .before .before .before .before .before .before .before .loop-test .taken, c .before .before .before .before .before .before .before .before .before .before .before .before .before .before .before .before .before .before .fits .n)
 
 loop-less : tie.Need-loop-less Inv-loop μ-loop
 loop-less c = omega arith
 
 loop-again : tie.Need-loop-again Inv-loop μ-loop
 loop-again c =
-    let s = c .before .before .before .before .before .before .before .before .before .before .before .before .before .before in
-    let t = c .before .before .before .before .before .before .before .before .before in
-    let e = c .before .before .before .before .before .before .constraint-row .ensures in
-    let o = c .before .before .before .before .before .over-regions .ensures in
-    let d = divisor-read (t .totals-of .result) _ (t .totals-of .ensures) _ (c .before .before .before .before .over-regions2 .ensures) in
+    let s = c .before .before .before .before .before .before .before .before .before .before .before .before .before .before .before .before .before .before in
+    let e = c .before .before .before .before .before .before .before .before .constraint-row .ensures in
+    let o = c .before .before .before .before .share-of .ensures .0 in
+    let d = c .before .before .before .before .share-of .ensures .1 in
     let x = c .before .before .constraint-lines .ensures in
-    (omega (arith, c .before .before .before .before .before .before .before .loop-test .taken), (out-more _ _ (c .before .before .before .before .before .before .before .before .loop .inv .1 .0) (con-out _ _ (s .args .n) _ _ _ _ _ e o d x), λ l. stands-next _ _ _ _ (s .pre .1 .0 .rise) (s .pre .1 .0 .names) _ _ (rw e at (x .past)) l))
+    (omega (arith, c .before .before .before .before .before .before .before .before .before .loop-test .taken), (out-more _ _ (c .before .before .before .before .before .before .before .before .before .before .loop .inv .1 .0) (con-out _ _ (s .args .n) _ _ _ _ _ e o d x), λ l. stands-next _ _ _ _ (s .pre .1 .0 .rise) (s .pre .1 .0 .names) _ _ (rw e at (x .past)) l))
 
 same-length : tie.Need-same-length Inv-loop μ-loop
 same-length c = emitted-length _ (c .before .loop .inv .1 .0)
@@ -75,11 +67,9 @@ constraints-spec =
     (tie.spec
     Inv-loop
     μ-loop
-    totals-of-requires
     loop-holds
     constraint-row-requires
-    over-regions-requires
-    over-regions-requires-2
+    share-of-requires
     constraint-lines-requires
     add-j
     loop-less
