@@ -10,18 +10,18 @@ use lib.Dec.{eqb}
 use lib.Pow.{pow-pos}
 use Rattle.sections.specs.Total.{total}
 use Rattle.sections.proofs.Cases.{cond-same, five}
-use Rattle.sections.proofs.Total.{sum-nil}
+use Rattle.sections.proofs.Total.{sum-nil, total-none, total-more, total-room}
 use Rattle.market.specs.Kinds.{bitSet, basisOf}
+use Rattle.market.specs.declared.Basis.{Basis}
+use Rattle.market.specs.declared.Basis.the-variants.{Ace, Asoe, Residual}
+use Rattle.market.proofs.Bases.{each-basis}
 use Rattle.market.proofs.Masks.{one-bit-more}
 use Rattle.records.specs.declared.rows.Entry.{Entry}
 use Rattle.records.specs.declared.rows.Constraint.{Constraint}
 use Rattle.totals.specs.Sums.{entryBy}
 use Rattle.totals.specs.Divisors.{countedIn, overRegions, constraintDivides}
-use Rattle.totals.specs.Inner.Totals.{entryOf}
 use Rattle.divisor_check.specs.Inner.Live.{bitWith, regionsWith, bitsBy, haveCommon, LiveIs}
-use Rattle.totals.specs.declared.entries.Totals.{Totals}
 use Rattle.divisor_check.specs.declared.live.Live.{Live}
-use Rattle.totals.proofs.Turns.{divisor-same}
 
 -- a region's bit is no larger than that, and of five regions at most 16
 bit-small : (energy g : ℕ) → bitWith energy g ≤ 2 ^ g
@@ -32,7 +32,7 @@ bit-small energy g = by (eqb energy 0)
     by true = omega arith
     by false = omega arith
 
-pub bit-room : (energy g : ℕ) → g < 5 → bitWith energy g ≤ 16
+bit-room : (energy g : ℕ) → g < 5 → bitWith energy g ≤ 16
 bit-room energy g l = le-trans (bit-small energy g) (five (λ k. 2 ^ k ≤ 16) (omega arith) (omega arith) (omega arith) (omega arith) (omega arith) g l)
 
 -- two numbers that are not 0: what is there of either is 0 together
@@ -68,11 +68,25 @@ module _ (mask : ℕ) (energy : ℕ → ℕ) where
       ∙ ap (λ (b : Bool). b && eqb (counts n) 0) (none-common n)
       ∙ sym (sum-nil (total counts n) (counts n))
 
--- the test of check 10, on totals that are the entries of a book
-pub divides-at : (t : Totals) (entry : ℕ → Entry) → ((g : ℕ) → g < 5 → entryOf t g ≡ entry g) → {x : Live} → LiveIs (entryOf t) x → (con : ℕ → Constraint) (j : ℕ) {r : Constraint} {b : Bool} → r ≡ con j → b ≡ haveCommon (r .mask) (bitsBy (basisOf (r .service)) x) → b ≡ constraintDivides entry con j
+-- the regions that have energy, entry by entry: none, a region more, and room for it
+module _ (entry : ℕ → Entry) where
+  pub live-none : LiveIs entry 0 (record { ace = 0; asoe = 0; residual = 0 })
+  live-none = record { each = each-basis _ (total-none _) (total-none _) (total-none _) }
+
+  module _ {g : ℕ} {x : Live} {e : Entry} (l : LiveIs entry g x) (q : e ≡ entry g) where
+    pub live-more : {a o r : ℕ} → a ≡ bitWith (e .ace) g → o ≡ bitWith (e .asoe) g → r ≡ bitWith (e .residual) g → LiveIs entry (g + 1) (record { ace = x .ace + a; asoe = x .asoe + o; residual = x .residual + r })
+    live-more a o r = record { each = each-basis _ (more Ace a) (more Asoe o) (more Residual r) }
+      where
+        more : (b : Basis) {p : ℕ} → p ≡ bitWith (entryBy b e) g → bitsBy b x + p ≡ regionsWith (λ k. entryBy b (entry k)) (g + 1)
+        more b p = total-more _ g (l .each b) (p ∙ ap (λ (e : Entry). bitWith (entryBy b e) g) q)
+
+    pub live-room : (b : Basis) {p : ℕ} → g < 5 → p ≡ bitWith (entryBy b e) g → bitsBy b x + p ≤ 80
+    live-room b m p = total-room _ 16 5 (λ k l. bit-room _ k l) g (l .each b) (p ∙ ap (λ (e : Entry). bitWith (entryBy b e) g) q) m
+
+-- the test of check 10
+pub divides-at : (entry : ℕ → Entry) {x : Live} → LiveIs entry 5 x → (con : ℕ → Constraint) (j : ℕ) {r : Constraint} {b : Bool} → r ≡ con j → b ≡ haveCommon (r .mask) (bitsBy (basisOf (r .service)) x) → b ≡ constraintDivides entry con j
 unfolding constraintDivides countedIn
-divides-at t entry e l con j {r} d q =
+divides-at entry l con j {r} d q =
     q
-    ∙ ap not (ap (λ (m : ℕ). eqb (bitAnd (r .mask) m) 0) (l .each (basisOf (r .service))) ∙ none-common (r .mask) (λ g. entryBy (basisOf (r .service)) (entryOf t g)) 5)
-    ∙ ap (λ (n : ℕ). not (eqb n 0)) (divisor-same (entryOf t) entry r e)
+    ∙ ap not (ap (λ (m : ℕ). eqb (bitAnd (r .mask) m) 0) (l .each (basisOf (r .service))) ∙ none-common (r .mask) (λ g. entryBy (basisOf (r .service)) (entry g)) 5)
     ∙ ap (λ (k : Constraint). not (eqb (overRegions entry k) 0)) d

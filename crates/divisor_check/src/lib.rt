@@ -17,7 +17,7 @@ pub fn constraints(regions: &[u8], cons: &[u8], n: usize) -> Checked
     requires { ⌜ (60 ≤ length (now regions)) × (n * 40 ≤ length (now cons)) ⌝ }
     ensures { λ r. ⌜ r ≡ firstBad (constraintDivides (entryRow (now (regions .entry))) (constraintRow (now (cons .entry)))) n ⌝ }
 {
-    let live = live::live_of(divisors::totals_of(regions));
+    let live = live::live_of(regions);
     let mut j = 0;
     while j < n {
         if !live::divides(live, rows::constraint_row(cons, j)) {

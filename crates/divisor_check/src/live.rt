@@ -1,15 +1,15 @@
 // The regions that have energy, one bit each as a constraint's regions are: whether a constraint's total is 0 is seen from these, and nothing is summed.
 ghost use mathlib.Core.Path.{_≡_};
-ghost use Prim.Native.Nat.{_<_};
-ghost use lib.ListN.{getD};
+ghost use Prim.Native.Nat.{_≤_, _<_};
+ghost use lib.ListN.{length};
 ghost use Rattle.market.specs.Kinds.{basisOf};
-ghost use Rattle.totals.specs.Inner.Totals.{entryOf};
-ghost use Rattle.divisor_check.specs.Inner.Live.{bitWith, regionsWith, bitsBy, haveCommon, LiveIs};
+ghost use Rattle.records.specs.Rows.{entryRow};
+ghost use Rattle.divisor_check.specs.Inner.Live.{bitWith, bitsBy, haveCommon, LiveIs};
 use market::Basis;
 use market::Region;
 use market::Service;
+use records::rows;
 use records::rows::Constraint;
-use totals::entries::Totals;
 
 // The regions that have energy of each kind.
 pub(crate) struct Live {
@@ -19,7 +19,7 @@ pub(crate) struct Live {
 }
 
 // Region g's bit where it has energy, else 0.
-fn bit_with(energy: u64, g: usize) -> u64
+fn bit_with(energy: u32, g: usize) -> u64
     requires { ⌜ g < 5 ⌝ }
     ensures { λ x. ⌜ x ≡ bitWith energy g ⌝ }
 {
@@ -29,30 +29,26 @@ fn bit_with(energy: u64, g: usize) -> u64
     Region::of(g as u8).bit() as u64
 }
 
-// The bits of the regions that have energy of one kind.
-fn regions_with(energy: [u64; 5]) -> u64
-    ensures { λ x. ⌜ x ≡ regionsWith (λ g. getD energy g 0) 5 ⌝ }
+// Of all five regions, once for a book, each entry read where it stands.
+pub(crate) fn live_of(regions: &[u8]) -> Live
+    requires { ⌜ 60 ≤ length (now regions) ⌝ }
+    ensures { λ x. ⌜ LiveIs (entryRow (now (regions .entry))) 5 x ⌝ }
 {
-    let mut bits: u64 = 0;
+    let mut ace: u64 = 0;
+    let mut asoe: u64 = 0;
+    let mut residual: u64 = 0;
     let mut g = 0;
     while g < Region::COUNT {
-        bits += bit_with(energy[g], g);
+        let e = rows::entry_row(regions, g);
+        ace += bit_with(e.ace, g);
+        asoe += bit_with(e.asoe, g);
+        residual += bit_with(e.residual, g);
         g += 1;
     }
-    bits
-}
-
-// Of all five regions, once for a book.
-pub(crate) fn live_of(t: Totals) -> Live
-    ensures { λ x. ⌜ LiveIs (entryOf t) x ⌝ }
-{
-    let ace = t.ace;
-    let asoe = t.asoe;
-    let residual = t.residual;
     Live {
-        ace: regions_with(ace),
-        asoe: regions_with(asoe),
-        residual: regions_with(residual),
+        ace,
+        asoe,
+        residual,
     }
 }
 

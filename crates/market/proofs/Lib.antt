@@ -1,3 +1,4 @@
 pub mod Modes
 pub mod Bases
 pub mod Masks
+pub mod Walk

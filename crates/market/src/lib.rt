@@ -1,8 +1,11 @@
 // Services, regions and a constraint's mode: what the numbers of a record stand for.
 // Raise or lower, the energy that a cost is shared by, the region's bit and the mode's data are asked here and nowhere else.
 ghost use mathlib.Core.Path.{_≡_};
-ghost use Prim.Native.Nat.{_^_, _<_};
+ghost use mathlib.Core.List.{_∷_};
+ghost use Prim.Native.Nat.{_-_, _^_, _<_};
+ghost use lib.ListN.{length};
 ghost use Rattle.market.specs.Kinds.{serviceNumbers, regionNumbers, isService, raises, regulates, basisOf, picked, bitSet, modeWith};
+ghost use Rattle.market.specs.Inner.Masks.{regionsIn};
 
 // A market frequency service, by its number.
 pub struct Service {
@@ -163,6 +166,32 @@ impl Region {
     {
         1 << self.number
     }
+
+    // How many regions a mask has, by its bits that belong to the five.
+    pub fn count_in(mask: u8) -> u32
+        ensures { λ n. ⌜ n ≡ length (regionsIn mask) ⌝ }
+    {
+        u8::count_ones(mask & 31)
+    }
+
+    // The first region of a mask is that of its lowest set bit, and without this bit it is the mask of those behind.
+    pub fn first_in(mask: u8) -> Step
+        requires { ⌜ 0 < length (regionsIn mask) ⌝ }
+        ensures { λ s. ⌜ (regionsIn mask ≡ s .region .number ∷ regionsIn (s .rest)) × (s .rest ≡ mask - 2 ^ (s .region .number)) ⌝ }
+    {
+        let number = u8::trailing_zeros(mask) as u8;
+        let rest = mask & (mask - 1);
+        Step {
+            region: Region { number },
+            rest,
+        }
+    }
+}
+
+// A step of the walk over a mask's regions, which go from the lowest bit up: one region, and the mask of those behind it.
+pub struct Step {
+    pub region: Region,
+    pub rest: u8,
 }
 
 // How a constraint's cost is shared. Only a factored one has a price, a response and a usage.

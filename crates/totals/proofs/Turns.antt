@@ -1,12 +1,11 @@
--- The region sums turn by turn, the test of an entry, the sum over a mask, and the entries of a book as totals. Assumes nothing.
-use Prim.Native.Nat.{ℕ, zero, suc, _+_, _≤_, _<_}
-use mathlib.Core.Path.{_≡_, refl, sym, subst, ap, _∙_}
-use mathlib.Core.Bool.{Bool, true, false, not, cond}
+-- The region sums turn by turn, the test of an entry, and the sum over a mask. Assumes nothing.
+use Prim.Native.Nat.{ℕ, _+_, _≤_, _<_}
+use mathlib.Core.Path.{_≡_, refl, sym, ap, _∙_}
+use mathlib.Core.Bool.{Bool, true, false, cond}
 use mathlib.Core.List.{List}
 use native.Mathlib.Omega.{arith}
 use native.Mathlib.Nat.{not-suc-le-zero, le-trans}
-use lib.Dec.{eqb}
-use lib.ListN.{length, getD, set, replicate}
+use lib.ListN.{length, getD, replicate}
 use lib.Seq.{ext-getD}
 use Rattle.sections.proofs.Total.{total-same}
 use Rattle.sections.proofs.Groups.{split-nothing, split-more, split-bound}
@@ -19,7 +18,7 @@ use Rattle.records.specs.declared.rows.Entry.{Entry}
 use Rattle.records.specs.declared.rows.Constraint.{Constraint}
 use Rattle.records.specs.declared.rows.EnergyRow.{EnergyRow}
 use Rattle.totals.specs.Sums.{entryBy, rowBy, entryWith, entryIs, entryHasSums}
-use Rattle.totals.specs.Divisors.{countedIn, overRegions, constraintDivides}
+use Rattle.totals.specs.Divisors.{countedIn, overRegions}
 use Rattle.totals.specs.Inner.Totals.{sumsBy, Five, sumAt, entryOf}
 use Rattle.totals.specs.Inner.Turns.{SumsOf, TotalsOf, SumRoom, withMore, Added}
 use Rattle.totals.specs.declared.entries.Totals.{Totals}
@@ -111,11 +110,3 @@ share-small r e g h = by (bitSet (r .mask) g)
 -- a total to divide by depends on the five entries alone
 pub divisor-same : (f h : ℕ → Entry) (r : Constraint) → ((g : ℕ) → g < 5 → f g ≡ h g) → overRegions f r ≡ overRegions h r
 divisor-same f h r e = total-same _ _ 5 (λ g l. ap (λ (x : Entry). countedIn r x g) (e g l))
-
--- totals that are the entries of a book
-module _ (t : Totals) (entry : ℕ → Entry) (e : (g : ℕ) → g < 5 → entryOf t g ≡ entry g) where
-  pub totals-rule : ((g : ℕ) → g < 5 → EntryRule (entry g)) → (g : ℕ) → g < 5 → EntryRule (entryOf t g)
-  totals-rule h g l = subst EntryRule (sym (e g l)) (h g l)
-
-  pub divisor-read : (r : Constraint) {x : ℕ} → x ≡ overRegions (entryOf t) r → x ≡ overRegions entry r
-  divisor-read r q = q ∙ divisor-same (entryOf t) entry r e

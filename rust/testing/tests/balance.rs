@@ -5,7 +5,9 @@
 
 use fervolatro_testing::book::Book;
 use fervolatro_testing::harness::report::shown;
-use fervolatro_testing::harness::{Answer, Call, Family, Run, Units, Wanted, LIBRARY};
+use fervolatro_testing::harness::{
+    constraint_over, every_mask, Answer, Call, Family, Run, Units, Wanted, LIBRARY,
+};
 use fervolatro_testing::reference::{self, Kind, Pool};
 use fervolatro_testing::requests::accounts::{named, Holding};
 use fervolatro_testing::requests::chosen::against_the_count;
@@ -79,12 +81,13 @@ const SUMS: [Family; 4] = [
     }),
 ];
 
-/// Every kind of pool, and what it can leave over.
+/// Every kind of pool, over every mask of regions, and what it can leave over.
 fn all_pools() -> Vec<(String, u64)> {
     let kinds = Kind::ALL.iter().map(|&kind| (pool_of(kind), 1_000));
     let left_over = LEFT_OVER.into_iter().zip([1_000, 1_000, 20]);
     let left_over = left_over.map(|(what, fewest)| (what.to_owned(), fewest));
-    kinds.chain(left_over).collect()
+    let masks = every_mask(constraint_over, 100);
+    kinds.chain(left_over).chain(masks).collect()
 }
 
 fn pool_of(kind: Kind) -> String {
@@ -122,7 +125,9 @@ fn compare(run: &mut Run, bytes: &[u8]) -> bool {
         let past = balances.of(number).map(Answer::Balance);
         run.expect(Call::Balance { pool: number }, bytes, past);
     }
-    for (number, pool) in (0..).zip(&reference::pools(&Book::decode(bytes))) {
+    let book = Book::decode(bytes);
+    run.see_masks(&book);
+    for (number, pool) in (0..).zip(&reference::pools(&book)) {
         let balance = balances.of(number).expect("it is a pool's number");
         let answer = Ok(Answer::Balance(balance));
         run.expect(Call::Balance { pool: number }, bytes, answer);
@@ -167,6 +172,7 @@ fn sums(run: &mut Run, books: usize, draw: fn(&mut Run) -> Book) {
         run.input();
         let bytes = book.encode();
         let lines = lines_of_all(&bytes);
+        run.see_masks(&book);
         for (number, pool) in (0..).zip(&reference::pools(&book)) {
             let balance = library::balance(&bytes, number).expect("it is a pool's number");
             let summed = pool.balance(&lines);

@@ -4,13 +4,16 @@
 
 use fervolatro_testing::book::{Book, Sections};
 use fervolatro_testing::harness::report::shown;
-use fervolatro_testing::harness::{Call, Family, Run, Units, Wanted, LIBRARY};
+use fervolatro_testing::harness::{
+    constraint_over, every_mask, zero_total_over, Call, Family, Run, Units, Wanted, LIBRARY,
+};
 use fervolatro_testing::requests::damage::sparse_noise;
 use fervolatro_testing::requests::edges::{self, Edged};
 use fervolatro_testing::requests::faults::{self, Fault, Spot};
 use fervolatro_testing::requests::generate::Sizes;
 use fervolatro_testing::requests::random::Random;
 use fervolatro_testing::requests::worked::{empty_book, worked_book};
+use fervolatro_testing::Refusal;
 
 /// Whole sizes that random draws seldom give, the largest legal book among them.
 const CHOSEN_SIZES: [Sizes; 6] = [
@@ -33,10 +36,12 @@ const fn sizes(constraints: usize, units: usize, energies: usize, contracts: usi
 
 #[test]
 fn library_and_reference_agree() {
+    let accepted = every_mask(constraint_over, 1_000);
+    let refused = every_mask(zero_total_over, 20);
     Run::over(&FAMILIES, LIBRARY, Units::Own).finish(&Wanted {
         inputs: 600_000,
         answers: &[("check", &[0, 1, 2, 3, 4, 5, 6, 7, 8, 9, 10])],
-        seen: Vec::new(),
+        seen: accepted.chain(refused).collect(),
     });
 }
 
@@ -63,13 +68,29 @@ const FAMILIES: [Family; 16] = [
 fn compare(run: &mut Run, book: &[u8]) -> u8 {
     run.input();
     let answer = run.compare(Call::Check, book);
+    if let Err(Refusal { number: 10, place }) = answer {
+        see_zero_total(run, book, place);
+    }
     answer.map_or_else(|refusal| refusal.number, |_| 0)
 }
 
+/// Counts the regions of the constraint that 10 is at; behind the constraints it is at a
+/// contract.
+fn see_zero_total(run: &mut Run, bytes: &[u8], place: usize) {
+    let book = Book::decode(bytes);
+    let section = Sections::of(&book.header).constraints;
+    let mut constraints = (0..).zip(&book.constraints);
+    if let Some((_, constraint)) = constraints.find(|(at, _)| section.offset(*at) == place) {
+        run.see(zero_total_over(constraint.regions));
+    }
+}
+
 /// Compares a book that has to be accepted.
-fn compare_accepted(run: &mut Run, book: &[u8]) {
-    let number = compare(run, book);
-    assert_eq!(number, 0, "not accepted: {}", shown(book));
+fn compare_accepted(run: &mut Run, book: &Book) {
+    let bytes = book.encode();
+    let number = compare(run, &bytes);
+    assert_eq!(number, 0, "not accepted: {}", shown(&bytes));
+    run.see_masks(book);
 }
 
 fn compare_at_edges(run: &mut Run, book: &mut [u8], record: usize, fields: &[Edged]) {
@@ -84,16 +105,15 @@ fn small_and_chosen_sizes(run: &mut Run, small: usize) -> Vec<Sizes> {
 }
 
 fn accepted_books(run: &mut Run) {
-    let mut bytes = Vec::new();
     for (count, most) in [(30_000, Sizes::SMALL), (3_000, Sizes::LARGEST)] {
         for _ in 0..count {
-            run.accepted(most).encode_into(&mut bytes);
-            compare_accepted(run, &bytes);
+            let book = run.accepted(most);
+            compare_accepted(run, &book);
         }
     }
     for sizes in CHOSEN_SIZES.repeat(8) {
-        run.accepted_of(sizes).encode_into(&mut bytes);
-        compare_accepted(run, &bytes);
+        let book = run.accepted_of(sizes);
+        compare_accepted(run, &book);
     }
     assert_eq!(run.accepted_of(Sizes::LARGEST).encode().len(), 39_796);
 }

@@ -9,7 +9,9 @@
 
 use fervolatro_testing::book::Book;
 use fervolatro_testing::harness::report::shown;
-use fervolatro_testing::harness::{asked_of, Answer, Call, Family, Run, Units, Wanted, LIBRARY};
+use fervolatro_testing::harness::{
+    asked_of, constraint_over, every_mask, Answer, Call, Family, Run, Units, Wanted, LIBRARY,
+};
 use fervolatro_testing::reference;
 use fervolatro_testing::requests::accounts::Holding;
 use fervolatro_testing::requests::generate::{book_of_longest_statement, Sizes};
@@ -21,6 +23,8 @@ const LONGEST: usize = 51_672;
 
 #[test]
 fn library_and_reference_write_the_same() {
+    let mut seen = Holding::ALL.map(|of| (account_with(of), 100)).to_vec();
+    seen.extend(every_mask(constraint_over, 500));
     Run::over(&FAMILIES, LIBRARY, Units::Shared).finish(&Wanted {
         inputs: 75_000,
         answers: &[
@@ -28,7 +32,7 @@ fn library_and_reference_write_the_same() {
             ("statement", &[0, 1, 2, 3, 4, 5, 6, 7, 8, 9, 10, 11, 13]),
             ("whole statement", &[0, 1, 2, 3, 4, 5, 6, 7, 8, 9, 10, 11]),
         ],
-        seen: Holding::ALL.map(|of| (account_with(of), 100)).to_vec(),
+        seen,
     });
 }
 
@@ -70,6 +74,9 @@ fn compare_account(run: &mut Run, book: &Book, bytes: &[u8], account: u32) {
     run.see(account_with(holding));
     let whole = run.compare(Call::WholeStatement { account }, bytes);
     assert_eq!(whole.is_ok(), holding != Holding::Nothing);
+    if whole.is_ok() {
+        run.see_masks(book);
+    }
     let length = length_of(bytes, account);
     let rooms = [0, 1, 23, 24, 311, 312, length + 1, length + 24, 2 * length];
     for room in [

@@ -18,9 +18,6 @@ Inv-loop regions cons n live j₀ j = (j ≤ n) × (firstBad (constraintDivides 
 abbrev μ-loop : tie.MeasureT-loop
 μ-loop regions cons n live j₀ j = n - j
 
-totals-of-requires : tie.Need-totals-of-requires Inv-loop μ-loop
-totals-of-requires c κs = search needs
-
 live-of-requires : tie.Need-live-of-requires Inv-loop μ-loop
 live-of-requires c κs = search needs
 
@@ -38,7 +35,7 @@ returns c =
     let l = c .before .before .before .before in
     let s = l .before in
     first-stop _ _ _ (l .loop .inv .1)
-    (divides-at (s .before .totals-of .result) _ (s .before .totals-of .ensures) (s .live-of .ensures) _ _ (c .before .before .constraint-row .ensures) (c .before .divides .ensures))
+    (divides-at _ (s .live-of .ensures) _ _ (c .before .before .constraint-row .ensures) (c .before .divides .ensures))
     (c .if1 .taken)
     (search needs)
 
@@ -54,7 +51,7 @@ loop-again c =
     let s = l .before in (
       search needs,
       first-more _ _ (l .loop .inv .1)
-          (divides-at (s .before .totals-of .result) _ (s .before .totals-of .ensures) (s .live-of .ensures) _ _ (c .before .before .constraint-row .ensures) (c .before .divides .ensures))
+          (divides-at _ (s .live-of .ensures) _ _ (c .before .before .constraint-row .ensures) (c .before .divides .ensures))
           (c .if1 .left),
     )
 
@@ -67,7 +64,6 @@ constraints-spec =
     (tie.spec
     Inv-loop
     μ-loop
-    totals-of-requires
     live-of-requires
     loop-holds
     constraint-row-requires

@@ -27,6 +27,6 @@ bitsBy b x = picked b (x .ace) (x .asoe) (x .residual)
 abbrev pub haveCommon : ℕ → ℕ → Bool
 haveCommon a b = not (eqb (bitAnd a b) 0)
 
--- of each kind, the regions whose entry has energy
-pub record LiveIs (entry : ℕ → Entry) (x : Live) : Type 0 where
-  pub each : (b : Basis) → bitsBy b x ≡ regionsWith (λ g. entryBy b (entry g)) 5
+-- of each kind, those of the first n regions whose entry has energy
+pub record LiveIs (entry : ℕ → Entry) (n : ℕ) (x : Live) : Type 0 where
+  pub each : (b : Basis) → bitsBy b x ≡ regionsWith (λ g. entryBy b (entry g)) n

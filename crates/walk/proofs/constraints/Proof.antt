@@ -11,7 +11,6 @@ use Rattle.emission.specs.Inner.Emitted.{Emitted}
 use Rattle.emission.proofs.Emission.{emitted-length}
 use Rattle.emission.proofs.Loops.{out-start, out-room, out-more, out-all}
 use Rattle.walk.proofs.Records.{settles-at, con-room, con-out}
-use borrow.Author.Needs.{needs}
 use Rattle.walk.proofs.constraints.Statement.{statement}
 use Rattle.walk.proofs.constraints.Tie as tie
 

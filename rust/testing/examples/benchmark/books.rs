@@ -46,7 +46,7 @@ impl Asked {
     }
 }
 
-/// The worked book, a middling one, and the largest legal one in two kinds.
+/// The worked book, a middling one, and the largest legal one in three kinds.
 pub fn all() -> Vec<Asked> {
     let mut random = Random::new(SEED);
     let mut middling = accepted_book(&mut random, MIDDLING);
@@ -56,14 +56,25 @@ pub fn all() -> Vec<Asked> {
     for book in [&mut middling, &mut largest, &mut longest] {
         leave_no_pool_empty(&mut random, book);
     }
+    let account = largest.units[0].account;
     vec![
         Asked::new("worked", &worked_book(), 7),
         Asked::new("middling", &middling, middling.units[0].account),
         // Most units have an account of their own.
-        Asked::new("largest, many accounts", &largest, largest.units[0].account),
+        Asked::new("largest, many accounts", &largest, account),
         // All units are one account's.
         Asked::new("largest, longest", &longest, 7),
+        Asked::new("largest, five regions", &over_all_regions(largest), account),
     ]
+}
+
+/// The book with every constraint over all five regions, the most that it can sum. What it
+/// divides by is then no less than before.
+fn over_all_regions(mut book: Book) -> Book {
+    for constraint in &mut book.constraints {
+        constraint.regions = 31;
+    }
+    book
 }
 
 /// The largest legal book, its accounts chosen against the library's count of them: the

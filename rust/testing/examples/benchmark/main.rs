@@ -240,7 +240,7 @@ fn base_cost(asked: &Rows) -> Times {
     )
 }
 
-/// The library's length beside its own check, which is the most of it: on the two largest
+/// The library's length beside its own check, which is the most of it: on the largest
 /// books at most 1.2 of the check's time are allowed.
 fn length_of_check(books: &[Asked]) {
     println!("\nlength of check, both the library's");

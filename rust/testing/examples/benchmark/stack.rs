@@ -12,7 +12,7 @@ use super::books::Asked;
 
 /// Prints what each book's calls use.
 pub fn print(books: &[Asked]) {
-    println!("\nstack of a call, in bytes; the limit is 4,096");
+    println!("\nstack of a call, in bytes; tests/c/stack.c has the limits");
     let outer = in_repository("target/outer");
     fs::create_dir_all(&outer).expect("the folder can be made");
     let program = outer.join("stack");

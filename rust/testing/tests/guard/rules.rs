@@ -30,7 +30,7 @@ const ALL_FUNCTIONS: &str = "every public function";
 /// are changed by hand, where the rules change or a request lands.
 const WORDS: [(&str, usize, u64); 2] = [
     (RULES, 9_626, 10_010_506_665_584_404_658),
-    (REQUESTS, 1_167, 9_076_768_863_468_954_858),
+    (REQUESTS, 1_369, 17_593_503_062_830_800_960),
 ];
 
 /// Rows with a cell empty or with something in it that is not there.
