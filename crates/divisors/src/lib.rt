@@ -44,7 +44,7 @@ fn total_in(regions: &[u8], basis: Basis, region: Region) -> u64
     basis.pick(e.ace as u64, e.asoe as u64, e.residual as u64)
 }
 
-// An account's energies by region are three lent lists; both sums are made on one walk.
+// A constraint's share, both sums on one walk. The account's energies by region are three lent lists.
 pub fn share_of(
     regions: &[u8],
     ace: &[u64; 5],

@@ -30,6 +30,7 @@ fn constraints(
     requires { ⌜ LineRoom (now buf) place (length (joined (conLinesAt (entryRow (now regions)) (constraintRow (now cons)) (unitRow (now units)) m account own) n)) ⌝ }
     ensures { λ x. ⌜ Emitted (now (buf .entry)) place (joined (conLinesAt (entryRow (now (regions .entry))) (constraintRow (now (cons .entry))) (unitRow (now (units .entry))) m account own) n) (now (buf .exit)) x ⌝ }
 {
+    // Lent to each constraint: handed over in their struct, they would be copied for each.
     let ace = own.ace;
     let asoe = own.asoe;
     let residual = own.residual;
