@@ -25,7 +25,8 @@ enum {
 };
 
 /* The bytes that a call may use: what it needs, up to the next multiple of 16, so
- * that more is seen. No call may have more than 4,096. */
+ * that more is seen; of the calls on a statement and on dispatch rows what the most
+ * of them needs. No call may have more than 4,096. */
 enum {
     CHECK_LIMIT = 512,
     LENGTH_LIMIT = 752,
