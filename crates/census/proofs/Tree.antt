@@ -72,12 +72,12 @@ module _ (name : ℕ → ℕ) where
   -- ---- how the tree grows
 
   -- no record, no link
-  pub grown-none : Grown name 0 (replicate 1712 0)
+  pub grown-none : Grown name 0 (replicate 1456 0)
   grown-none =
       record {
-        slots = length-replicate {A = ℕ} 1712 0;
-        rows = λ s. rw (empty 1712 s) (omega arith);
-        rises = λ s f. absurd (omega (arith, f, empty 1712 s));
+        slots = length-replicate {A = ℕ} 1456 0;
+        rows = λ s. rw (empty 1456 s) (omega arith);
+        rises = λ s f. absurd (omega (arith, f, empty 1456 s));
         found = λ j l. absurd (omega arith);
       }
     where
@@ -108,7 +108,7 @@ module _ (name : ℕ → ℕ) where
           }
 
   -- record u has a new name, and is put at its place
-  pub grown-more : (u s : ℕ) {a : ℕ} {links links′ : List ℕ} → Grown name u links → a ≡ name u → Place name links a s → s < 512 + 2 * u → u < 600 → getD links s 0 ≤ 0 → links′ ≡ set links s (u + 1) → Grown name (u + 1) links′
+  pub grown-more : (u s : ℕ) {a : ℕ} {links links′ : List ℕ} → Grown name u links → a ≡ name u → Place name links a s → s < 256 + 2 * u → u < 600 → getD links s 0 ≤ 0 → links′ ≡ set links s (u + 1) → Grown name (u + 1) links′
   grown-more u s {a} {links} g q p near few z e =
       rw e
       (record {
@@ -128,7 +128,7 @@ module _ (name : ℕ → ℕ) where
       row t true h = rw (eqb-true t s h, there) (omega arith)
       row t false h = rw (getD-set-other links s t (u + 1) 0 (eqb-false t s h)) (omega (arith, g .rows t))
 
-      rise : (t : ℕ) (b : Bool) → eqb t s ≡ b → 0 < getD (set links s (u + 1)) t 0 → t < 510 + 2 * getD (set links s (u + 1)) t 0
+      rise : (t : ℕ) (b : Bool) → eqb t s ≡ b → 0 < getD (set links s (u + 1)) t 0 → t < 254 + 2 * getD (set links s (u + 1)) t 0
       rise t true h f = rw (eqb-true t s h, there) (omega arith)
       rise t false h f =
           let o : getD (set links s (u + 1)) t 0 ≡ getD links t 0 = getD-set-other links s t (u + 1) 0 (eqb-false t s h) in
@@ -159,10 +159,10 @@ module _ (name : ℕ → ℕ) where
     pub left : bits ≡ bitsAt a depth
     pub small : bits < 4_294_967_296
     pub told : link ≡ getD links s 0
-    pub near : s < 512 + 2 * u
+    pub near : s < 256 + 2 * u
     pub passed : (e : ℕ) → e < depth → Another name a (linkAt links a e)
 
-  pub way-start : (u a : ℕ) {links : List ℕ} {key s bits link : ℕ} → key ≡ keyOf a → s ≡ rootOf key → s < 512 → bits ≡ key * 512 % 4_294_967_296 → link ≡ getD links s 0 → Way u links a s bits link
+  pub way-start : (u a : ℕ) {links : List ℕ} {key s bits link : ℕ} → key ≡ keyOf a → s ≡ rootOf key → s < 256 → bits ≡ key * 256 % 4_294_967_296 → link ≡ getD links s 0 → Way u links a s bits link
   unfolding slotAt bitsAt
   way-start u a k r l b t =
       record { depth = 0; here = rw (r, k) refl; left = rw (b, k) refl; small = rw b (omega arith); told = t; near = omega arith; passed = λ e m. absurd (omega arith) }

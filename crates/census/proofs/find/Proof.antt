@@ -13,7 +13,7 @@ abbrev Inv-loop : tie.InvT-loop
 Inv-loop units u links a k slot₀ bits₀ link₀ slot bits link = Way (unitAccount (unitRow units)) u links a slot bits link
 
 abbrev μ-loop : tie.MeasureT-loop
-μ-loop units u links a k slot₀ bits₀ link₀ slot bits link = 1712 - slot
+μ-loop units u links a k slot₀ bits₀ link₀ slot bits link = 1456 - slot
 
 key-requires : tie.Need-key-requires Inv-loop μ-loop
 key-requires c κs = search needs

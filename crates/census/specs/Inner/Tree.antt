@@ -1,5 +1,5 @@
--- A tree of records by their names, in one list of links. A link is the number of a record and 1 more, or 0 where it is empty. The first 512
--- slots are the roots; slots 512 + 2 p and 513 + 2 p are the children of record p. The bits of a name's key lead from a root down.
+-- A tree of records by their names, in one list of links. A link is the number of a record and 1 more, or 0 where it is empty. The first 256
+-- slots are the roots; slots 256 + 2 p and 257 + 2 p are the children of record p. The bits of a name's key lead from a root down.
 use Prim.Native.Nat.{ℕ, zero, suc, _+_, _*_, _-_, _/_, _%_, _≤_, _<_}
 use mathlib.Core.Path.{_≡_}
 use mathlib.Core.List.{List}
@@ -9,18 +9,18 @@ use lib.ListN.{length, getD}
 abbrev pub keyOf : ℕ → ℕ
 keyOf a = a * 2_654_435_761 % 4_294_967_296
 
--- the root at which a key starts: its first 9 bits
+-- the root at which a key starts: its first 8 bits
 abbrev pub rootOf : ℕ → ℕ
-rootOf key = key / 8_388_608
+rootOf key = key / 16_777_216
 
 -- the bits of a name's key that are left after the root and d children
 unfoldable pub bitsAt : ℕ → ℕ → ℕ
-bitsAt a zero = keyOf a * 512 % 4_294_967_296
+bitsAt a zero = keyOf a * 256 % 4_294_967_296
 bitsAt a (suc d) = bitsAt a d * 2 % 4_294_967_296
 
 -- the child to which bits lead from the record of a link: the first of them says which
 abbrev pub childOf : ℕ → ℕ → ℕ
-childOf link bits = 510 + 2 * link + bits / 2_147_483_648
+childOf link bits = 254 + 2 * link + bits / 2_147_483_648
 
 -- the slot to which a name leads after d children
 unfoldable pub slotAt : List ℕ → ℕ → ℕ → ℕ
@@ -51,7 +51,7 @@ pub record Found (name : ℕ → ℕ) (links : List ℕ) (a : ℕ) : Type 0 wher
 
 -- the tree of the records 0 .. u - 1: each name is found, and a link stands before the children of its record
 pub record Grown (name : ℕ → ℕ) (u : ℕ) (links : List ℕ) : Type 0 where
-  pub slots : length links ≡ 1712
+  pub slots : length links ≡ 1456
   pub rows : (s : ℕ) → getD links s 0 ≤ u
-  pub rises : (s : ℕ) → 0 < getD links s 0 → s < 510 + 2 * getD links s 0
+  pub rises : (s : ℕ) → 0 < getD links s 0 → s < 254 + 2 * getD links s 0
   pub found : (j : ℕ) → j < u → Found name links (name j)

@@ -1,0 +1,4 @@
+-- What contracts of inner functions speak of, and no promise to a caller outside.
+pub mod Laid
+pub mod Marks
+pub mod Added
