@@ -7,6 +7,14 @@
  * it keeps nothing from one call to the next, and needs no preparation and no
  * tidying up.
  *
+ * The locked book. Every call on a book takes a second one, by whose energies
+ * and region totals contracts of kind 2, test payments, are shared; all else,
+ * the header of a statement too, is the book's own. It is lent as a slice like
+ * the first, and a slice of length 0 is no locked book: NULL and 0 say so. It
+ * is read only where the book has a contract of kind 2, and then wanted; where
+ * the book has none, no byte of it is looked at, whatever is lent. It may be
+ * the book itself, the same bytes twice.
+ *
  * What a caller must keep to. A slice is lent as a pointer and a length: so
  * many bytes from there on can be read, and those of a buffer written, for as
  * long as the call lasts. What they hold may be anything. A slice of length 0
@@ -34,9 +42,9 @@
 /* The version of the library that this header belongs to. Whole numbers and
  * their text say the same. */
 #define FERVOLATRO_VERSION_MAJOR 0
-#define FERVOLATRO_VERSION_MINOR 3
+#define FERVOLATRO_VERSION_MINOR 4
 #define FERVOLATRO_VERSION_PATCH 0
-#define FERVOLATRO_VERSION "0.3.0"
+#define FERVOLATRO_VERSION "0.4.0"
 
 /* How many bytes each record of a book has, in the order of the book. */
 #define FERVOLATRO_BOOK_HEADER_SIZE 24
@@ -106,7 +114,7 @@ enum {
     FERVOLATRO_REFUSED_REGION_ENTRY = 9,
     /* A total that a share would be divided by is zero. */
     FERVOLATRO_REFUSED_ZERO_TOTAL = 10,
-    /* No unit row and no energy row names the account. */
+    /* No unit row and no energy row of a book read names the account. */
     FERVOLATRO_REFUSED_NO_ACCOUNT = 11,
     /* A line would pass FERVOLATRO_LIMIT either way. */
     FERVOLATRO_REFUSED_LIMIT = 12,
@@ -118,7 +126,12 @@ enum {
     FERVOLATRO_REFUSED_PAST_END = 15,
     /* A dispatch row is cut short, out of range or not rising, has a product
      * above FERVOLATRO_MOST_PRODUCT or takes a sum past FERVOLATRO_LIMIT. */
-    FERVOLATRO_REFUSED_DISPATCH_ROW = 16
+    FERVOLATRO_REFUSED_DISPATCH_ROW = 16,
+    /* A contract of kind 2 has no locked book. */
+    FERVOLATRO_REFUSED_NO_LOCKED = 17,
+    /* The locked book fails one of checks 1 to 9, has another date or interval
+     * than the book, or a later run. */
+    FERVOLATRO_REFUSED_LOCKED = 18
 };
 
 /* What a line of a statement is for. ACE is the energy consumed, ASOE the
@@ -177,7 +190,8 @@ enum {
     FERVOLATRO_MODE_DEFAULT = 2
 };
 
-/* The kind of a restart contract. */
+/* The kind of a restart contract. One of kind 2 is shared by the locked
+ * book. */
 enum {
     FERVOLATRO_CONTRACT_ORDINARY = 1,
     FERVOLATRO_CONTRACT_TEST = 2
@@ -190,9 +204,10 @@ extern "C" {
 /*
  * The answer of a check.
  *
- * refusal  0 if the book is accepted, else the number of the refusal, 1 to 10.
+ * refusal  0 if the book is accepted, else the number of the refusal, 1 to 10,
+ *          17 or 18.
  * place    where in the book the fault lies, in bytes from its start;
- *          0 if the book is accepted.
+ *          0 if the book is accepted. It is never a place in the locked book.
  */
 typedef struct {
     uint64_t refusal;
@@ -200,7 +215,8 @@ typedef struct {
 } fervolatro_verdict;
 
 /*
- * Checks a book: any bytes of any length get exactly one answer.
+ * Checks a book, and the locked book where it is read: any bytes of any length
+ * get exactly one answer.
  *
  *   No  Given exactly when                              Place
  *    0  none of the rows below applies                  0
@@ -217,23 +233,35 @@ typedef struct {
  *       of mode 0
  *    8  factor sums fail                                the constraint's offset
  *    9  a region entry differs from its rows' sums      the entry's offset
+ *   17  a kind 2 contract has no locked book            the first such
+ *                                                       contract's offset
+ *   18  the locked book fails one of checks 1 to 9,     the first such
+ *       has another date or interval, or a later run    contract's offset
  *   10  a total to divide by is zero                    constraint's or
  *                                                       contract's offset
  *
- * The lowest number that applies is given. Each check runs over the whole
- * book before the next number; within it the lowest offset is reported.
+ * The first row that applies is given, in this order. Each check runs over the
+ * whole book before the next one; within it the lowest offset is reported.
  *
- * book      the first of book_len readable bytes.
- * book_len  how many bytes are lent.
+ * 17 and 18 are given only where the book has a contract of kind 2, and their
+ * place is that of the first. Of the locked book checks 1 to 9 are asked and no
+ * other; then it has the book's date and interval, and the book's run or an
+ * earlier one. For a contract of kind 2 the totals of 10 are the locked book's.
+ *
+ * book        the first of book_len readable bytes.
+ * book_len    how many bytes are lent.
+ * locked      the first of locked_len readable bytes.
+ * locked_len  how many bytes are lent; 0 where there is no locked book.
  */
-fervolatro_verdict fervolatro_check(const uint8_t *book, size_t book_len);
+fervolatro_verdict fervolatro_check(const uint8_t *book, size_t book_len,
+                                    const uint8_t *locked, size_t locked_len);
 
 /*
  * The answer of fervolatro_length, and of a call that writes a statement or the
  * lines of one.
  *
  * refusal  0 if the call is not refused, else the number of the refusal, 1 to
- *          14.
+ *          14, 17 or 18.
  * place    where in the book the fault lies, in bytes from its start; 0 if the
  *          call is not refused, and for refusals 11 to 14.
  * length   how many bytes were written, or how many fervolatro_statement would
@@ -251,27 +279,35 @@ typedef struct {
  *
  *   No  Given exactly when                              Place
  *    0  none of the rows below applies                  0
- *    1  to 10, as fervolatro_check gives them
- *   11  no unit row and no energy row names the         0
- *       account
+ *    1  to 10, 17 and 18, as fervolatro_check gives
+ *       them
+ *   11  no book read names the account                  0
  *   12  a line would pass 50,000,000,000 ten-           0
  *       thousandths of a dollar either way
  *
- * The lowest number that applies is given. There is no 13, since no buffer is
- * lent.
+ * The first row that applies is given, in this order. There is no 13, since no
+ * buffer is lent.
+ *
+ * A book names the accounts of its unit rows and of its energy rows. One that
+ * only the locked book names, where that is read, has every line that the book
+ * gives an account without rows.
  *
  * Who wants a statement asks for its length first and lends just that much. Of
- * the same book and account, fervolatro_statement never refuses a buffer of
+ * the same books and account, fervolatro_statement never refuses a buffer of
  * this length by 13, and always one of a byte less:
  *
- *   fervolatro_written asked = fervolatro_length(book, book_len, account);
+ *   fervolatro_written asked = fervolatro_length(book, book_len, locked,
+ *                                                locked_len, account);
  *   uint8_t *buffer = asked.refusal == 0 ? malloc(asked.length) : NULL;
  *
- * book      the first of book_len readable bytes.
- * book_len  how many bytes are lent.
- * account   any number; 0 is no account, and refused by 11.
+ * book        the first of book_len readable bytes.
+ * book_len    how many bytes are lent.
+ * locked      the first of locked_len readable bytes.
+ * locked_len  how many bytes are lent; 0 where there is no locked book.
+ * account     any number; 0 is no account, and refused by 11.
  */
 fervolatro_written fervolatro_length(const uint8_t *book, size_t book_len,
+                                     const uint8_t *locked, size_t locked_len,
                                      uint32_t account);
 
 /*
@@ -280,11 +316,15 @@ fervolatro_written fervolatro_length(const uint8_t *book, size_t book_len,
  *
  *   No  Given exactly when                              Place
  *    0  none of the rows below applies                  0
- *    1  to 12, as fervolatro_length gives them
+ *    1  to 12, 17 and 18, as fervolatro_length gives
+ *       them
  *   13  buffer_len below the statement's length         0
  *
- * The lowest number that applies is given. The call makes all these checks
- * itself, whether the length was asked for before or not.
+ * The first row that applies is given, in this order. The call makes all these
+ * checks itself, whether the length was asked for before or not.
+ *
+ * Date, interval and run of the statement are the book's, also where the locked
+ * book is read.
  *
  * Where the answer is 0, the first length bytes of the buffer are the
  * statement and every later byte is what it was. A refusal leaves every byte
@@ -292,20 +332,24 @@ fervolatro_written fervolatro_length(const uint8_t *book, size_t book_len,
  *
  * book        the first of book_len readable bytes.
  * book_len    how many bytes are lent to be read.
- * account     any number; 0 is no account, and refused by 11.
- * buffer      the first of buffer_len writable bytes, none of them in the
+ * locked      the first of locked_len readable bytes.
+ * locked_len  how many bytes are lent to be read; 0 where there is no locked
  *             book.
+ * account     any number; 0 is no account, and refused by 11.
+ * buffer      the first of buffer_len writable bytes, none of them in the book
+ *             or in the locked book.
  * buffer_len  how many bytes are lent to be written.
  */
 fervolatro_written fervolatro_statement(const uint8_t *book, size_t book_len,
-                                        uint32_t account, uint8_t *buffer,
-                                        size_t buffer_len);
+                                        const uint8_t *locked,
+                                        size_t locked_len, uint32_t account,
+                                        uint8_t *buffer, size_t buffer_len);
 
 /*
  * The answer of fervolatro_balance.
  *
- * refusal  0 if the pool is there, else the number of the refusal, 1 to 10 or
- *          15; then every field below is 0 but the place.
+ * refusal  0 if the pool is there, else the number of the refusal, 1 to 10, 15,
+ *          17 or 18; then every field below is 0 but the place.
  * place    where in the book the fault lies, in bytes from its start; 0 if the
  *          pool is there, and for refusal 15.
  * amount   what is to be recovered, in ten-thousandths of a dollar: the cost
@@ -330,21 +374,26 @@ typedef struct {
  *
  *   No  Given exactly when                              Place
  *    0  none of the rows below applies                  0
- *    1  to 10, as fervolatro_check gives them
+ *    1  to 10, 17 and 18, as fervolatro_check gives
+ *       them
  *   15  pool is not below the number of pools           0
  *
- * The lowest number that applies is given.
+ * The first row that applies is given, in this order.
  *
  * Pools are numbered from 0 in book order: one for a constraint of mode 0,
  * three for one of mode 1 (FPP, used, unused), one for one of mode 2, one for a
  * contract. The accounts are those that a unit row or an energy row of the book
- * names, each once.
+ * names, or one of the locked book where that is read, each once: for every
+ * pool, those of constraints too.
  *
- * book      the first of book_len readable bytes.
- * book_len  how many bytes are lent.
- * pool      any number.
+ * book        the first of book_len readable bytes.
+ * book_len    how many bytes are lent.
+ * locked      the first of locked_len readable bytes.
+ * locked_len  how many bytes are lent; 0 where there is no locked book.
+ * pool        any number.
  */
 fervolatro_pool fervolatro_balance(const uint8_t *book, size_t book_len,
+                                   const uint8_t *locked, size_t locked_len,
                                    uint64_t pool);
 
 /*

@@ -3,12 +3,12 @@
  * cannot link x86-64 code can still ask the very library.
  *
  * A request is a letter and the arguments, a slice being a u32 length and its bytes:
- *   'c', the book: the answer is fervolatro_verdict, field by field;
- *   'n', the book, a u32 account: of fervolatro_length; the answer is fervolatro_written, field by
- *        field;
- *   's', the book, a u32 account, the buffer: the answer is fervolatro_written, field by field, and
- *        then the whole buffer as the call left it;
- *   'b', the book, a u64 pool: the answer is fervolatro_pool, field by field;
+ *   'c', the book, the locked book: the answer is fervolatro_verdict, field by field;
+ *   'n', the book, the locked book, a u32 account: of fervolatro_length; the answer is
+ *        fervolatro_written, field by field;
+ *   's', the book, the locked book, a u32 account, the buffer: the answer is fervolatro_written,
+ *        field by field, and then the whole buffer as the call left it;
+ *   'b', the book, the locked book, a u64 pool: the answer is fervolatro_pool, field by field;
  *   'h', the statement: the answer is fervolatro_heading, field by field;
  *   'l', the statement, a u64 index: the answer is fervolatro_entry, field by field;
  *   'a', the statement, the buffer: of fervolatro_lines; the answer is as for 's';
@@ -106,49 +106,56 @@ static void give_written(fervolatro_written written, const slice *buffer)
     give(buffer->bytes, buffer->len);
 }
 
+/* What the calls on a book read. */
+static slice book, locked;
+
+static void take_books(void)
+{
+    take_slice(&book);
+    take_slice(&locked);
+}
+
 static void check(void)
 {
-    static slice book;
     fervolatro_verdict verdict;
 
-    take_slice(&book);
-    verdict = fervolatro_check(book.bytes, book.len);
+    take_books();
+    verdict = fervolatro_check(book.bytes, book.len, locked.bytes, locked.len);
     give(&verdict, sizeof verdict);
 }
 
 static void find_length(void)
 {
-    static slice book;
     uint32_t account;
     fervolatro_written found;
 
-    take_slice(&book);
+    take_books();
     take(&account, sizeof account);
-    found = fervolatro_length(book.bytes, book.len, account);
+    found = fervolatro_length(book.bytes, book.len, locked.bytes, locked.len, account);
     give(&found, sizeof found);
 }
 
 static void write_statement(void)
 {
-    static slice book, buffer;
+    static slice buffer;
     uint32_t account;
 
-    take_slice(&book);
+    take_books();
     take(&account, sizeof account);
     take_buffer(&buffer);
-    give_written(fervolatro_statement(book.bytes, book.len, account, buffer.bytes, buffer.len),
+    give_written(fervolatro_statement(book.bytes, book.len, locked.bytes, locked.len, account,
+                                      buffer.bytes, buffer.len),
                  &buffer);
 }
 
 static void balance(void)
 {
-    static slice book;
     uint64_t number;
     fervolatro_pool pool;
 
-    take_slice(&book);
+    take_books();
     take(&number, sizeof number);
-    pool = fervolatro_balance(book.bytes, book.len, number);
+    pool = fervolatro_balance(book.bytes, book.len, locked.bytes, locked.len, number);
     give(&pool, sizeof pool);
 }
 

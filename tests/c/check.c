@@ -32,7 +32,7 @@ static int failures = 0;
 static void expect(const char *name, const uint8_t *book, size_t len,
                    uint64_t refusal, uint64_t place)
 {
-    fervolatro_verdict got = fervolatro_check(book, len);
+    fervolatro_verdict got = fervolatro_check(book, len, NULL, 0);
 
     if (got.refusal != refusal || got.place != place) {
         fprintf(stderr,
@@ -90,7 +90,7 @@ static void expect_written(const char *name, fervolatro_written got,
  * has room for more than is expected. */
 static size_t length_for_7(const uint8_t *book)
 {
-    fervolatro_written asked = fervolatro_length(book, WORKED_LEN, 7);
+    fervolatro_written asked = fervolatro_length(book, WORKED_LEN, NULL, 0, 7);
 
     if (asked.refusal != 0 || asked.length != STATEMENT_LEN) {
         fprintf(stderr,
@@ -112,7 +112,8 @@ static void expect_statement(const char *name, const uint8_t *book,
     fervolatro_written got;
 
     memset(buffer, UNTOUCHED, ROOM);
-    got = fervolatro_statement(book, WORKED_LEN, account, buffer, buffer_len);
+    got = fervolatro_statement(book, WORKED_LEN, NULL, 0, account, buffer,
+                               buffer_len);
     expect_written(name, got, buffer, refusal, front, front_len);
 }
 
@@ -133,6 +134,7 @@ static void expect_rewritten(const char *name, const uint8_t *statement,
 /* The other answers are alike in this: fields of 64 bits, with nothing between
  * them. */
 enum {
+    VERDICT_FIELDS = 2,
     WRITTEN_FIELDS = 3,
     HEADING_FIELDS = 7,
     ENTRY_FIELDS = 7,
@@ -140,6 +142,8 @@ enum {
     COST_FIELDS = 3
 };
 
+_Static_assert(sizeof(fervolatro_verdict) == VERDICT_FIELDS * sizeof(uint64_t),
+               "a verdict has two fields");
 _Static_assert(sizeof(fervolatro_written) == WRITTEN_FIELDS * sizeof(uint64_t),
                "what is written has three fields");
 _Static_assert(sizeof(fervolatro_heading) == HEADING_FIELDS * sizeof(uint64_t),
@@ -180,12 +184,12 @@ static void expect_refused(const char *name, const uint8_t *book, size_t len,
                            uint32_t account, fervolatro_written expected)
 {
     uint8_t buffer[ROOM], untouched[ROOM];
-    fervolatro_written got = fervolatro_length(book, len, account);
+    fervolatro_written got = fervolatro_length(book, len, NULL, 0, account);
 
     expect_fields(name, WRITTEN_FIELDS, &got, &expected);
     memset(buffer, UNTOUCHED, ROOM);
     memset(untouched, UNTOUCHED, ROOM);
-    got = fervolatro_statement(book, len, account, buffer, ROOM);
+    got = fervolatro_statement(book, len, NULL, 0, account, buffer, ROOM);
     expect_fields(name, WRITTEN_FIELDS, &got, &expected);
     if (memcmp(buffer, untouched, ROOM) != 0) {
         fprintf(stderr, "%s: other bytes in the buffer\n", name);
@@ -196,7 +200,7 @@ static void expect_refused(const char *name, const uint8_t *book, size_t len,
 static void expect_pool(const char *name, const uint8_t *book, size_t len,
                         uint64_t pool, fervolatro_pool expected)
 {
-    fervolatro_pool got = fervolatro_balance(book, len, pool);
+    fervolatro_pool got = fervolatro_balance(book, len, NULL, 0, pool);
 
     expect_fields(name, POOL_FIELDS, &got, &expected);
 }
@@ -325,7 +329,8 @@ static void read_back(const uint8_t *book)
     enum { LEN = STATEMENT_LEN };
     uint8_t statement[LEN] = {0};
 
-    fervolatro_statement(book, WORKED_LEN, 7, statement, length_for_7(book));
+    fervolatro_statement(book, WORKED_LEN, NULL, 0, 7, statement,
+                         length_for_7(book));
     expect_heading("header", statement, LEN, heading);
     expect_heading("header of no bytes", statement, 0, no_heading);
     expect_heading("header, one byte short", statement, LEN - 1, no_heading);
@@ -362,6 +367,74 @@ static void balances(const uint8_t *book)
     expect_pool("pool 3", book, WORKED_LEN, 3, no_pool);
     expect_pool("pool 2^64 - 1", book, WORKED_LEN, UINT64_MAX, no_pool);
     expect_pool("pool 3, one byte short", book, WORKED_LEN - 1, 3, no_book);
+}
+
+/* The worked book with a test payment of 1,000,000 behind it, all of it for NSW1:
+ * 1,000,000 is 0x0F4240. The locked book is the worked one, in which account 7 has
+ * ACE 15,000 of 1,015,000 and ASOE 5,000 of 585,000. */
+enum { TEST_LEN = WORKED_LEN + 36 };
+
+static void put_test_payment(const uint8_t *book, uint8_t with_test[TEST_LEN])
+{
+    static const uint8_t million[] = {0x40, 0x42, 0x0F};
+    uint8_t *contract = with_test + WORKED_LEN;
+
+    memset(with_test, 0, TEST_LEN);
+    memcpy(with_test, book, WORKED_LEN);
+    with_test[20] = 1;                          /* one contract */
+    contract[0] = 1;                            /* id */
+    contract[4] = FERVOLATRO_CONTRACT_TEST;     /* kind */
+    memcpy(contract + 8, million, sizeof million);  /* payment */
+    memcpy(contract + 16, million, sizeof million); /* NSW1's factor */
+}
+
+static void expect_locked(const char *name, const uint8_t with_test[TEST_LEN],
+                          const uint8_t *locked, size_t locked_len,
+                          fervolatro_verdict expected)
+{
+    fervolatro_verdict got =
+        fervolatro_check(with_test, TEST_LEN, locked, locked_len);
+
+    expect_fields(name, VERDICT_FIELDS, &got, &expected);
+}
+
+/* Halves of 500,000. Account 7's are 500,000 x 15 / 1,015 = 7,389.16 and 500,000 x
+ * 5 / 585 = 4,273.50; account 9's 492,610.84 and 495,726.50. All four lines make
+ * 1,000,000. */
+static void locked_books(const uint8_t *book)
+{
+    static const fervolatro_written whole = {0, 0, STATEMENT_LEN + 2 * 24};
+    static const fervolatro_entry by_ace = {0, 0, 1, 9, 1, 0, -7389};
+    static const fervolatro_entry by_asoe = {0, 0, 1, 10, 1, 0, -4274};
+    static const fervolatro_pool pool = {0, 0, 1000000, 4, -1000000};
+    uint8_t with_test[TEST_LEN], later[WORKED_LEN];
+    uint8_t statement[STATEMENT_LEN + 2 * 24] = {0};
+    fervolatro_written got;
+    fervolatro_pool balance;
+
+    put_test_payment(book, with_test);
+    memcpy(later, book, WORKED_LEN);
+    later[12] = 2; /* the run */
+    expect_locked("no locked book", with_test, NULL, 0,
+                  (fervolatro_verdict){17, WORKED_LEN});
+    expect_locked("a locked book of 83 bytes", with_test, book, 83,
+                  (fervolatro_verdict){18, WORKED_LEN});
+    expect_locked("a later run", with_test, later, WORKED_LEN,
+                  (fervolatro_verdict){18, WORKED_LEN});
+    expect_locked("a locked book", with_test, book, WORKED_LEN,
+                  (fervolatro_verdict){0, 0});
+    expect_locked("the book itself", with_test, with_test, TEST_LEN,
+                  (fervolatro_verdict){0, 0});
+
+    got = fervolatro_length(with_test, TEST_LEN, book, WORKED_LEN, 7);
+    expect_fields("length with a locked book", WRITTEN_FIELDS, &got, &whole);
+    got = fervolatro_statement(with_test, TEST_LEN, book, WORKED_LEN, 7,
+                               statement, sizeof statement);
+    expect_fields("statement with a locked book", WRITTEN_FIELDS, &got, &whole);
+    expect_line("contract by ACE", statement, sizeof statement, 12, by_ace);
+    expect_line("contract by ASOE", statement, sizeof statement, 13, by_asoe);
+    balance = fervolatro_balance(with_test, TEST_LEN, book, WORKED_LEN, 3);
+    expect_fields("pool of a test payment", POOL_FIELDS, &balance, &pool);
 }
 
 /* Document 001's raise regulation: each region's price and enablement, and the
@@ -448,6 +521,7 @@ int main(int argc, char **argv)
     refused_books(book);
     read_back(book);
     balances(book);
+    locked_books(book);
     costs();
     refused_rows();
 

@@ -154,6 +154,8 @@ static const char *name_of(uint64_t refusal)
     case FERVOLATRO_REFUSED_NO_STATEMENT: return "no statement";
     case FERVOLATRO_REFUSED_PAST_END: return "past the end";
     case FERVOLATRO_REFUSED_DISPATCH_ROW: return "dispatch row";
+    case FERVOLATRO_REFUSED_NO_LOCKED: return "no locked book";
+    case FERVOLATRO_REFUSED_LOCKED: return "locked book";
     default: return "a number without a name";
     }
 }
@@ -221,9 +223,9 @@ static uint64_t check_with(size_t at, uint8_t byte)
     uint64_t refusal;
 
     book[at] = byte;
-    refusal = fervolatro_check(book, BOOK_LEN).refusal;
+    refusal = fervolatro_check(book, BOOK_LEN, NULL, 0).refusal;
     expect("the length for account 7",
-           fervolatro_length(book, BOOK_LEN, 7).refusal, refusal);
+           fervolatro_length(book, BOOK_LEN, NULL, 0, 7).refusal, refusal);
     book[at] = before;
     return refusal;
 }
@@ -254,25 +256,63 @@ static void refusals_of_records(void)
 
 static void refusals_of_a_book(void)
 {
-    expect("the worked book", fervolatro_check(book, BOOK_LEN).refusal,
+    expect("the worked book", fervolatro_check(book, BOOK_LEN, NULL, 0).refusal,
            FERVOLATRO_NOT_REFUSED);
     expect("a byte less than the region entries",
-           fervolatro_check(book, CONSTRAINT_AT - 1).refusal,
+           fervolatro_check(book, CONSTRAINT_AT - 1, NULL, 0).refusal,
            FERVOLATRO_REFUSED_SHORT);
     expect("another mark", check_with(0, 0), FERVOLATRO_REFUSED_MARK);
     expect("interval 0", check_with(6, 0), FERVOLATRO_REFUSED_RANGE);
-    expect("a byte less", fervolatro_check(book, BOOK_LEN - 1).refusal,
+    expect("a byte less", fervolatro_check(book, BOOK_LEN - 1, NULL, 0).refusal,
            FERVOLATRO_REFUSED_LENGTH);
     refusals_of_records();
-    expect("pool 3", fervolatro_balance(book, BOOK_LEN, 3).refusal,
+    expect("pool 3", fervolatro_balance(book, BOOK_LEN, NULL, 0, 3).refusal,
            FERVOLATRO_REFUSED_PAST_END);
+}
+
+/* A contract of the kind, whose benefit is all the first region's: 1,000,000 is
+ * 0x0F4240. */
+static void put_contract(uint8_t contract[FERVOLATRO_CONTRACT_SIZE],
+                         unsigned kind)
+{
+    memset(contract, 0, FERVOLATRO_CONTRACT_SIZE);
+    contract[0] = 1;
+    contract[4] = (uint8_t)kind;
+    memcpy(contract + 16, (uint8_t[]){0x40, 0x42, 0x0F}, 3);
+}
+
+/* The book and a contract behind it. The ordinary one wants no locked book, and reads
+ * none; the test payment does. */
+static void refusals_of_a_locked_book(void)
+{
+    enum { LEN = BOOK_LEN + FERVOLATRO_CONTRACT_SIZE };
+    uint8_t with_contract[LEN];
+
+    memcpy(with_contract, book, BOOK_LEN);
+    with_contract[20] = 1;
+    put_contract(with_contract + BOOK_LEN, FERVOLATRO_CONTRACT_ORDINARY);
+    expect("an ordinary contract",
+           fervolatro_check(with_contract, LEN, NULL, 0).refusal,
+           FERVOLATRO_NOT_REFUSED);
+    expect("an ordinary contract and half a locked book",
+           fervolatro_check(with_contract, LEN, book, BOOK_LEN / 2).refusal,
+           FERVOLATRO_NOT_REFUSED);
+    put_contract(with_contract + BOOK_LEN, FERVOLATRO_CONTRACT_TEST);
+    expect("a test payment", fervolatro_check(with_contract, LEN, NULL, 0).refusal,
+           FERVOLATRO_REFUSED_NO_LOCKED);
+    expect("a test payment and half a locked book",
+           fervolatro_check(with_contract, LEN, book, BOOK_LEN / 2).refusal,
+           FERVOLATRO_REFUSED_LOCKED);
+    expect("a test payment and a locked book",
+           fervolatro_check(with_contract, LEN, book, BOOK_LEN).refusal,
+           FERVOLATRO_NOT_REFUSED);
 }
 
 /* How much to lend for account 7's statement, which is asked first. There is room
  * for no more than is expected. */
 static size_t length_for_7(void)
 {
-    fervolatro_written asked = fervolatro_length(book, BOOK_LEN, 7);
+    fervolatro_written asked = fervolatro_length(book, BOOK_LEN, NULL, 0, 7);
 
     expect("length for account 7", asked.refusal, FERVOLATRO_NOT_REFUSED);
     expect_number("which is", asked.length, STATEMENT_LEN);
@@ -282,21 +322,22 @@ static size_t length_for_7(void)
     return (size_t)asked.length;
 }
 
+static uint64_t statement_for(uint32_t account, size_t len)
+{
+    return fervolatro_statement(book, BOOK_LEN, NULL, 0, account, statement, len)
+        .refusal;
+}
+
 static void refusals_of_a_statement(void)
 {
     size_t len = length_for_7();
 
     expect("length for account 8",
-           fervolatro_length(book, BOOK_LEN, 8).refusal,
+           fervolatro_length(book, BOOK_LEN, NULL, 0, 8).refusal,
            FERVOLATRO_REFUSED_NO_ACCOUNT);
-    expect("account 7",
-           fervolatro_statement(book, BOOK_LEN, 7, statement, len).refusal,
-           FERVOLATRO_NOT_REFUSED);
-    expect("account 8",
-           fervolatro_statement(book, BOOK_LEN, 8, statement, len).refusal,
-           FERVOLATRO_REFUSED_NO_ACCOUNT);
-    expect("room one short",
-           fervolatro_statement(book, BOOK_LEN, 7, statement, len - 1).refusal,
+    expect("account 7", statement_for(7, len), FERVOLATRO_NOT_REFUSED);
+    expect("account 8", statement_for(8, len), FERVOLATRO_REFUSED_NO_ACCOUNT);
+    expect("room one short", statement_for(7, len - 1),
            FERVOLATRO_REFUSED_BUFFER);
     expect("a byte less of the statement",
            fervolatro_header(statement, STATEMENT_LEN - 1).refusal,
@@ -462,23 +503,19 @@ static void energy_numbers(void)
     }
 }
 
-/* A book of one contract, whose benefit is all the first region's: 1,000,000 is
- * 0x0F4240. */
+/* A book of one contract. */
 static void contract_numbers(void)
 {
     enum { LEN = CONSTRAINT_AT + FERVOLATRO_CONTRACT_SIZE };
     uint8_t other[LEN] = {0};
-    uint8_t *contract = other + CONSTRAINT_AT;
     unsigned number;
 
     memcpy(other, book, 14);
     other[20] = 1;
-    contract[0] = 1;
-    memcpy(contract + 16, (uint8_t[]){0x40, 0x42, 0x0F}, 3);
     for (number = 0; number < 256; number++) {
-        contract[4] = (uint8_t)number;
+        put_contract(other + CONSTRAINT_AT, number);
         expect_taken("contract kind", number,
-                     fervolatro_check(other, LEN).refusal,
+                     fervolatro_check(other, LEN, other, LEN).refusal,
                      is_contract_kind(number));
     }
 }
@@ -543,6 +580,7 @@ int main(int argc, char **argv)
     }
     read_book(argv[1]);
     refusals_of_a_book();
+    refusals_of_a_locked_book();
     refusals_of_a_statement();
     row_size();
     row_limits();

@@ -3,8 +3,9 @@
  * field of every answer and of every parameter, which no contract of the proved
  * code speaks of. The fields of an answer differ from each other, and numbers of
  * 2^32 and above stand wherever the type and the rules have room for them. And
- * sees that a slice of length 0 may come with any pointer, and that the calls on a
- * book touch no byte behind what they are lent.
+ * sees that a slice of length 0 may come with any pointer, that the calls on a book
+ * touch no byte behind what they are lent, and none of a locked book that is not
+ * read.
  *
  * The one argument is the machine's name (`uname -m`). Lengths of 2^32 and above
  * want a mapping of that size; a machine other than x86_64, where this runs in an
@@ -23,6 +24,8 @@
 #include <unistd.h>
 
 #include "fervolatro.h"
+
+#include "books.h"
 
 static const uint64_t TWO_TO_32 = UINT64_C(1) << 32;
 
@@ -145,102 +148,9 @@ static void expect_distinct(const char *name, size_t fields, const void *answer)
     }
 }
 
-/* ---- Records, put into bytes where the rules have their fields. */
+/* ---- Statements and dispatch rows, put into bytes; books.h does so with books. */
 
-static void put(uint8_t *bytes, size_t at, size_t width, uint64_t value)
-{
-    size_t i;
-
-    for (i = 0; i < width; i++) {
-        bytes[at + i] = (uint8_t)(value >> (8 * i));
-    }
-}
-
-enum {
-    HEADER_LEN = 24,
-    ENTRY_LEN = 12,
-    ENTRIES_END = HEADER_LEN + 5 * ENTRY_LEN,
-    CONSTRAINT_LEN = 40,
-    UNIT_LEN = 20,
-    ENERGY_LEN = 24,
-    CONTRACT_LEN = 36,
-    LINE_LEN = 24,
-    ROW_LEN = 16
-};
-
-/* Header and lines of a statement and header of a book begin alike: mark,
- * version 1, then these three. No two of all the numbers here are equal. */
-enum { INTERVAL = 287, DATE = 20960229, RUN = 98 };
-
-static void put_front(uint8_t *bytes, const char *mark)
-{
-    memcpy(bytes, mark, 3);
-    put(bytes, 4, 2, 1);
-    put(bytes, 6, 2, INTERVAL);
-    put(bytes, 8, 4, DATE);
-    put(bytes, 12, 2, RUN);
-}
-
-static void put_counts(uint8_t *book, uint64_t constraints, uint64_t units,
-                       uint64_t energies, uint64_t contracts)
-{
-    put(book, 14, 2, constraints);
-    put(book, 16, 2, units);
-    put(book, 18, 2, energies);
-    put(book, 20, 2, contracts);
-}
-
-static void put_constraint(uint8_t *at, uint64_t id, uint64_t service,
-                           uint64_t regions, uint64_t mode, uint64_t cost)
-{
-    put(at, 0, 4, id);
-    put(at, 4, 1, service);
-    put(at, 5, 1, regions);
-    put(at, 6, 1, mode);
-    put(at, 8, 8, cost);
-}
-
-static void put_unit(uint8_t *at, uint64_t constraint, uint64_t unit,
-                     uint64_t account, int64_t cf, int64_t dcf)
-{
-    put(at, 0, 4, constraint);
-    put(at, 4, 4, unit);
-    put(at, 8, 4, account);
-    put(at, 12, 4, (uint64_t)cf);
-    put(at, 16, 4, (uint64_t)dcf);
-}
-
-/* Of the energy 1 kWh of ACE is residual, and no ASOE. */
-static void put_energy(uint8_t *at, uint64_t account, uint64_t region,
-                       int64_t ace, int64_t asoe)
-{
-    put(at, 0, 4, account);
-    put(at, 4, 1, region);
-    put(at, 8, 4, (uint64_t)ace);
-    put(at, 12, 4, (uint64_t)asoe);
-    put(at, 16, 4, (uint64_t)INT64_C(-1));
-}
-
-/* What the energy rows of a region sum to. */
-static void put_entry(uint8_t *book, size_t region, int64_t ace, int64_t asoe,
-                      int64_t residual)
-{
-    uint8_t *at = book + HEADER_LEN + region * ENTRY_LEN;
-
-    put(at, 0, 4, (uint64_t)ace);
-    put(at, 4, 4, (uint64_t)asoe);
-    put(at, 8, 4, (uint64_t)residual);
-}
-
-/* The whole benefit is one region's. */
-static void put_contract(uint8_t *at, uint64_t id, uint64_t kind,
-                         uint64_t payment, size_t region)
-{
-    put(at, 0, 4, id);
-    put(at, 4, 1, kind);
-    put(at, 8, 8, payment);
-    put(at, 16 + 4 * region, 4, 1000000);
-}
+enum { LINE_LEN = 24, ROW_LEN = 16 };
 
 static void put_row(uint8_t *at, uint64_t id, uint64_t service,
                     uint64_t region, uint64_t price, uint64_t enablement)
@@ -255,7 +165,6 @@ static void put_row(uint8_t *at, uint64_t id, uint64_t service,
 
 /* ---- A book that is accepted, with names of 2^31 and above. */
 
-#define ACCOUNT UINT32_C(0xFEDCBA98)
 #define CONTINGENCY UINT32_C(0x8BADF00D)
 #define REGULATION UINT32_C(0xF00DFACE)
 #define CONTRACT UINT32_C(0xCAFED00D)
@@ -312,6 +221,27 @@ static void make_book(uint8_t book[BOOK_LEN])
 }
 
 /*
+ * The locked book, of an earlier run, and shorter. Energy, all of it in SA1: accounts 4
+ * and ACCOUNT have ACE -1 and -7, in all -8; ASOE 2 and 3, in all 5; residual ACE -1
+ * each.
+ */
+enum { LOCKED_LEN = ENTRIES_END + 2 * ENERGY_LEN };
+
+_Static_assert(BOOK_LEN == 312 && LOCKED_LEN == 132, "the two lengths differ");
+
+static uint8_t locked[LOCKED_LEN];
+
+static void make_locked(void)
+{
+    put_front(locked, "RCB");
+    put(locked, 12, 2, RUN - 1);
+    put_counts(locked, 0, 0, 2, 0);
+    put_entry(locked, SA1, -8, 5, 2);
+    put_energy(locked + ENTRIES_END, 4, SA1, -1, 2);
+    put_energy(locked + ENTRIES_END + ENERGY_LEN, ACCOUNT, SA1, -7, 3);
+}
+
+/*
  * ACCOUNT's lines.
  *
  * Contingency, raise: 49,999,999,999 x 1 / 3 = 16,666,666,666 and a third.
@@ -324,9 +254,9 @@ static void make_book(uint8_t book[BOOK_LEN])
  * 12,000,000,000 x -200,000 / 1,000,000 = -2,400,000,000. The account has a third
  * of each: 33,333 and a third; 0; -800,000,000.
  *
- * Contract: r = 40,000,000,001 is odd, so the consumed half is 20,000,000,001, of
- * which 3 / 6 is 10,000,000,000 and a half; the sent-out half is 20,000,000,000,
- * of which a third is 6,666,666,666 and two thirds.
+ * Contract, by the locked book: r = 40,000,000,001 is odd, so the consumed half is
+ * 20,000,000,001, of which 7 / 8 is 17,500,000,000 and seven eighths; the sent-out
+ * half is 20,000,000,000, of which 3 / 5 is 12,000,000,000.
  */
 enum { LINES = 9, STATEMENT_LEN = HEADER_LEN + LINES * LINE_LEN };
 
@@ -345,16 +275,17 @@ static const fervolatro_entry LINE[LINES] = {
     {.id = REGULATION, .part = 8, .regions = REGULATION_REGIONS,
      .amount = -800000000},
     {.id = CONTRACT, .part = 9, .regions = 1 << SA1,
-     .amount = -INT64_C(10000000001)},
+     .amount = -INT64_C(17500000001)},
     {.id = CONTRACT, .part = 10, .regions = 1 << SA1,
-     .amount = -INT64_C(6666666667)},
+     .amount = -INT64_C(12000000000)},
 };
 
 static const fervolatro_written WHOLE = {.length = STATEMENT_LEN};
 
-/* Account 5 has no unit: a contingency line, three of a residual and two of the
- * contract. */
-static const fervolatro_written WHOLE_OF_5 = {.length = HEADER_LEN + 6 * LINE_LEN};
+/* Accounts 4, of the locked book alone, and 5 have no unit: a contingency line, three
+ * of a residual and two of the contract. */
+static const fervolatro_written WITHOUT_UNITS = {.length =
+                                                     HEADER_LEN + 6 * LINE_LEN};
 
 static const fervolatro_heading HEADING = {.account = ACCOUNT,
                                            .date = DATE,
@@ -382,27 +313,27 @@ static void make_statement(uint8_t statement[STATEMENT_LEN])
 }
 
 /*
- * The pools over accounts 3 and 5 and ACCOUNT.
+ * The pools over accounts 3 to 5 and ACCOUNT, of which 4 has nothing in the book.
  *
  * Contingency: three lines of -16,666,666,666. FPP: the units' 49,999,900,000 and
  * -50,000,000,000, three of 33,333. Used: the other unit's -18,000,000,000, all
  * else 0. Unused: the units' -8,400,000,000 and -1,200,000,000, three of
- * -800,000,000. Contract: of 20,000,000,001 by ACE a sixth, 3,333,333,333 and a
- * half, two sixths, 6,666,666,667, and 10,000,000,001, in all 20,000,000,002; by
- * ASOE three of 6,666,666,667, in all 20,000,000,001.
+ * -800,000,000. Contract: of 20,000,000,001 by ACE an eighth, 2,500,000,000 and an
+ * eighth, and 17,500,000,001, in all 20,000,000,001; of 20,000,000,000 by ASOE two
+ * fifths, 8,000,000,000, and 12,000,000,000.
  */
 enum { POOLS = 5 };
 
 static const fervolatro_pool POOL[POOLS] = {
-    {.amount = INT64_C(49999999999), .lines = 3,
+    {.amount = INT64_C(49999999999), .lines = 4,
      .sum = -INT64_C(49999999998)},
-    {.amount = 0, .lines = 5, .sum = -1},
-    {.amount = INT64_C(18000000000), .lines = 5,
+    {.amount = 0, .lines = 6, .sum = -1},
+    {.amount = INT64_C(18000000000), .lines = 6,
      .sum = -INT64_C(18000000000)},
-    {.amount = INT64_C(12000000000), .lines = 5,
+    {.amount = INT64_C(12000000000), .lines = 6,
      .sum = -INT64_C(12000000000)},
-    {.amount = INT64_C(40000000001), .lines = 6,
-     .sum = -INT64_C(40000000003)},
+    {.amount = INT64_C(40000000001), .lines = 8,
+     .sum = -INT64_C(40000000001)},
 };
 
 /*
@@ -462,7 +393,8 @@ static void expect_left(const char *name, const uint8_t *buffer, size_t room,
  * sure to have room for more than is expected. */
 static size_t length_asked(const uint8_t *book)
 {
-    fervolatro_written asked = fervolatro_length(book, BOOK_LEN, ACCOUNT);
+    fervolatro_written asked =
+        fervolatro_length(book, BOOK_LEN, locked, LOCKED_LEN, ACCOUNT);
 
     expect_written("length", asked, WHOLE);
     if (asked.length != STATEMENT_LEN) {
@@ -481,20 +413,22 @@ static void good_call_for_a_statement(const uint8_t *book,
 
     memset(buffer, UNTOUCHED, ROOM);
     expect_written("statement",
-                   fervolatro_statement(book, BOOK_LEN, ACCOUNT, buffer, len),
+                   fervolatro_statement(book, BOOK_LEN, locked, LOCKED_LEN,
+                                        ACCOUNT, buffer, len),
                    WHOLE);
     expect_left("statement", buffer, ROOM, statement, STATEMENT_LEN);
 
     memset(buffer, UNTOUCHED, ROOM);
     expect_written("statement into more",
-                   fervolatro_statement(book, BOOK_LEN, ACCOUNT, buffer, ROOM),
+                   fervolatro_statement(book, BOOK_LEN, locked, LOCKED_LEN,
+                                        ACCOUNT, buffer, ROOM),
                    WHOLE);
     expect_left("statement into more", buffer, ROOM, statement, STATEMENT_LEN);
 
     memset(buffer, UNTOUCHED, ROOM);
     expect_written("statement into less",
-                   fervolatro_statement(book, BOOK_LEN, ACCOUNT, buffer,
-                                        len - 1),
+                   fervolatro_statement(book, BOOK_LEN, locked, LOCKED_LEN,
+                                        ACCOUNT, buffer, len - 1),
                    (fervolatro_written){.refusal = 13});
     expect_left("statement into less", buffer, ROOM, buffer, 0);
 }
@@ -503,15 +437,89 @@ static void good_calls_on_the_book(const uint8_t *book)
 {
     uint64_t pool;
 
-    expect_verdict("check", fervolatro_check(book, BOOK_LEN),
+    expect_verdict("check", fervolatro_check(book, BOOK_LEN, locked, LOCKED_LEN),
                    (fervolatro_verdict){0});
     expect_written("length for another account",
-                   fervolatro_length(book, BOOK_LEN, 5), WHOLE_OF_5);
+                   fervolatro_length(book, BOOK_LEN, locked, LOCKED_LEN, 5),
+                   WITHOUT_UNITS);
+    expect_written("length for an account of the locked book",
+                   fervolatro_length(book, BOOK_LEN, locked, LOCKED_LEN, 4),
+                   WITHOUT_UNITS);
 
     for (pool = 0; pool < POOLS; pool++) {
-        expect_pool("balance", fervolatro_balance(book, BOOK_LEN, pool),
+        expect_pool("balance",
+                    fervolatro_balance(book, BOOK_LEN, locked, LOCKED_LEN, pool),
                     POOL[pool]);
     }
+}
+
+/* The locked book stands where the book does, and has no contract: the other is not
+ * read. It has two accounts and no line, so no pool. */
+static void exchanged_books(const uint8_t *book)
+{
+    static const fervolatro_written header_alone = {.length = HEADER_LEN};
+    uint8_t buffer[ROOM];
+
+    expect_verdict("check, exchanged",
+                   fervolatro_check(locked, LOCKED_LEN, book, BOOK_LEN),
+                   (fervolatro_verdict){0});
+    expect_written("length, exchanged",
+                   fervolatro_length(locked, LOCKED_LEN, book, BOOK_LEN, 4),
+                   header_alone);
+    expect_written("length, exchanged, for an account of the other",
+                   fervolatro_length(locked, LOCKED_LEN, book, BOOK_LEN, 5),
+                   (fervolatro_written){.refusal = 11});
+    expect_written("statement, exchanged",
+                   fervolatro_statement(locked, LOCKED_LEN, book, BOOK_LEN, 4,
+                                        buffer, ROOM),
+                   header_alone);
+    expect_pool("balance, exchanged",
+                fervolatro_balance(locked, LOCKED_LEN, book, BOOK_LEN, 0),
+                (fervolatro_pool){.refusal = 15});
+}
+
+/* What refuses the two slices in these lengths: 4 where the first is not whole, 18
+ * where the second is not, 17 where that has no byte. */
+static void expect_lengths(const char *name, const uint8_t *book, size_t book_len,
+                           size_t locked_len, fervolatro_verdict expected)
+{
+    const fervolatro_written written = {.refusal = expected.refusal,
+                                        .place = expected.place};
+    const fervolatro_pool pool = {.refusal = expected.refusal,
+                                  .place = expected.place};
+    uint8_t buffer[ROOM];
+
+    memset(buffer, UNTOUCHED, ROOM);
+    expect_verdict(name, fervolatro_check(book, book_len, locked, locked_len),
+                   expected);
+    expect_written(name,
+                   fervolatro_length(book, book_len, locked, locked_len, ACCOUNT),
+                   written);
+    expect_written(name,
+                   fervolatro_statement(book, book_len, locked, locked_len,
+                                        ACCOUNT, buffer, ROOM),
+                   written);
+    expect_left(name, buffer, ROOM, buffer, 0);
+    expect_pool(name, fervolatro_balance(book, book_len, locked, locked_len, 0),
+                pool);
+}
+
+static void lengths_of_the_two_slices(const uint8_t *book)
+{
+    const fervolatro_verdict other_length = {.refusal = 4};
+    const fervolatro_verdict no_locked = {.refusal = 17, .place = CONTRACTS_AT};
+    const fervolatro_verdict wrong_locked = {.refusal = 18,
+                                             .place = CONTRACTS_AT};
+
+    expect_lengths("a byte less of the book", book, BOOK_LEN - 1, LOCKED_LEN,
+                   other_length);
+    expect_lengths("as much of the book as of the other", book, LOCKED_LEN,
+                   LOCKED_LEN, other_length);
+    expect_lengths("a byte less of the locked book", book, BOOK_LEN,
+                   LOCKED_LEN - 1, wrong_locked);
+    expect_lengths("83 bytes of the locked book", book, BOOK_LEN,
+                   ENTRIES_END - 1, wrong_locked);
+    expect_lengths("none of the locked book", book, BOOK_LEN, 0, no_locked);
 }
 
 static void good_calls_on_the_statement(const uint8_t *statement)
@@ -594,17 +602,6 @@ static void good_calls_on_rows(const uint8_t *rows)
 /* A book of the most records; the last contract's kind is 3, and no earlier
  * record breaks a rule of its own. It is refused by 5, at a place of 39,760:
  * above 2^15, and different in each of its two bytes. */
-enum {
-    MOST_CONSTRAINTS = 64,
-    MOST_UNITS = 600,
-    MOST_ENERGIES = 1024,
-    MOST_CONTRACTS = 16,
-    LAST_CONTRACT_AT = ENTRIES_END + MOST_CONSTRAINTS * CONSTRAINT_LEN
-                       + MOST_UNITS * UNIT_LEN + MOST_ENERGIES * ENERGY_LEN
-                       + (MOST_CONTRACTS - 1) * CONTRACT_LEN,
-    LARGEST_LEN = LAST_CONTRACT_AT + CONTRACT_LEN
-};
-
 _Static_assert(LAST_CONTRACT_AT == 39760, "84 + 2,560 + 12,000 + 24,576 + 540");
 
 static void make_refused(uint8_t book[LARGEST_LEN])
@@ -639,19 +636,37 @@ static void refused_calls_on_a_book(void)
 
     make_refused(book);
     expect_verdict(
-        "check refused", fervolatro_check(book, LARGEST_LEN),
+        "check refused", fervolatro_check(book, LARGEST_LEN, NULL, 0),
         (fervolatro_verdict){.refusal = 5, .place = LAST_CONTRACT_AT});
-    expect_written("length refused", fervolatro_length(book, LARGEST_LEN, 1),
-                   refused);
+    expect_written("length refused",
+                   fervolatro_length(book, LARGEST_LEN, NULL, 0, 1), refused);
 
     memset(buffer, UNTOUCHED, ROOM);
     expect_written("statement refused",
-                   fervolatro_statement(book, LARGEST_LEN, 1, buffer, ROOM),
+                   fervolatro_statement(book, LARGEST_LEN, NULL, 0, 1, buffer,
+                                        ROOM),
                    refused);
     expect_left("statement refused", buffer, ROOM, buffer, 0);
 
-    expect_pool("balance refused", fervolatro_balance(book, LARGEST_LEN, 0),
+    expect_pool("balance refused",
+                fervolatro_balance(book, LARGEST_LEN, NULL, 0, 0),
                 (fervolatro_pool){.refusal = 5, .place = LAST_CONTRACT_AT});
+}
+
+/* The last contract of the largest book alone is of kind 2. */
+static void refused_for_the_locked_book(void)
+{
+    static uint8_t book[LARGEST_LEN];
+
+    make_largest(book, 0, 1);
+    put(book, LAST_CONTRACT_AT + 4, 1, 2);
+    expect_lengths("no locked book, largest", book, LARGEST_LEN, 0,
+                   (fervolatro_verdict){.refusal = 17,
+                                        .place = LAST_CONTRACT_AT});
+    expect_lengths("a byte less of a locked book, largest", book, LARGEST_LEN,
+                   LOCKED_LEN - 1,
+                   (fervolatro_verdict){.refusal = 18,
+                                        .place = LAST_CONTRACT_AT});
 }
 
 /* A byte less than the statement: 14. One of the buffer's: 13. */
@@ -750,81 +765,14 @@ static void refused_calls_on_rows(void)
 /* ---- The longest statement. */
 
 /*
- * An accepted book of the most records, with every unit ACCOUNT's: its statement has
- * 3 x 600 lines of units, 3 x 64 of residuals and 2 x 5 x 16 of contracts. It has
- * 51,672 = 0xC9D8 bytes: above 2^15, and different in each of its two bytes.
- *
- * Of each constraint the first unit's CF is 1,000,000, which RCF -1,000,000 makes 0;
- * DRCF is -1,000,000. Energy rows are of accounts 1 to 205, in the regions in turn:
- * 205 rows in each region, and 204 in the last.
+ * The largest book with every unit ACCOUNT's: its statement has 3 x 600 lines of units,
+ * 3 x 64 of residuals and 2 x 5 x 16 of contracts. It has 51,672 = 0xC9D8 bytes: above
+ * 2^15, and different in each of its two bytes. The last contract is of kind 2, and the
+ * same bytes are lent as the locked book.
  */
-enum { LONGEST_LEN = HEADER_LEN + 2152 * LINE_LEN, MILLION = 1000000 };
+enum { LONGEST_LEN = HEADER_LEN + 2152 * LINE_LEN };
 
 _Static_assert(LONGEST_LEN == 51672, "24 + 24 x (1,800 + 192 + 160)");
-
-/* Its sections, each of which ends where the next begins. */
-static uint8_t *put_factored(uint8_t *at)
-{
-    uint64_t i;
-
-    for (i = 1; i <= MOST_CONSTRAINTS; i++, at += CONSTRAINT_LEN) {
-        put_constraint(at, i, RAISE, 31, 1, 0);
-        put(at, 28, 4, (uint64_t)-MILLION);
-        put(at, 32, 4, (uint64_t)-MILLION);
-    }
-    return at;
-}
-
-static uint8_t *put_units(uint8_t *at)
-{
-    uint64_t i, constraint, before = 0;
-
-    for (i = 0; i < MOST_UNITS; i++, at += UNIT_LEN) {
-        constraint = 1 + i * MOST_CONSTRAINTS / MOST_UNITS;
-        put_unit(at, constraint, i + 1, ACCOUNT,
-                 constraint == before ? 0 : MILLION, 0);
-        before = constraint;
-    }
-    return at;
-}
-
-static uint8_t *put_energies(uint8_t *at)
-{
-    uint64_t i;
-
-    for (i = 0; i < MOST_ENERGIES; i++, at += ENERGY_LEN) {
-        put_energy(at, 1 + i / 5, i % 5, -1, 1);
-    }
-    return at;
-}
-
-static void put_contracts(uint8_t *at)
-{
-    uint64_t i, region;
-
-    for (i = 1; i <= MOST_CONTRACTS; i++, at += CONTRACT_LEN) {
-        put_contract(at, i, 1, 0, 0);
-        for (region = 0; region < 5; region++) {
-            put(at, 16 + 4 * region, 4, MILLION / 5);
-        }
-    }
-}
-
-static void make_longest(uint8_t book[LARGEST_LEN])
-{
-    size_t region;
-    int64_t rows;
-
-    memset(book, 0, LARGEST_LEN);
-    put_front(book, "RCB");
-    put_counts(book, MOST_CONSTRAINTS, MOST_UNITS, MOST_ENERGIES,
-               MOST_CONTRACTS);
-    for (region = 0; region < 5; region++) {
-        rows = region < 4 ? 205 : 204;
-        put_entry(book, region, -rows, rows, rows);
-    }
-    put_contracts(put_energies(put_units(put_factored(book + ENTRIES_END))));
-}
 
 /* Account 205 has no unit, and so 192 lines of residuals and 160 of contracts. */
 static void longest_statement(void)
@@ -839,18 +787,22 @@ static void longest_statement(void)
                                                .lines = 2152};
     static uint8_t book[LARGEST_LEN], buffer[LONGEST_LEN];
 
-    make_longest(book);
+    make_largest(book, 0, 1);
+    put(book, LAST_CONTRACT_AT + 4, 1, 2);
     expect_written("longest length",
-                   fervolatro_length(book, LARGEST_LEN, ACCOUNT), longest);
+                   fervolatro_length(book, LARGEST_LEN, book, LARGEST_LEN,
+                                     ACCOUNT),
+                   longest);
     expect_written("length without units",
-                   fervolatro_length(book, LARGEST_LEN, 205), without_units);
+                   fervolatro_length(book, LARGEST_LEN, book, LARGEST_LEN, 205),
+                   without_units);
     expect_written("longest statement, a byte less",
-                   fervolatro_statement(book, LARGEST_LEN, ACCOUNT, buffer,
-                                        LONGEST_LEN - 1),
+                   fervolatro_statement(book, LARGEST_LEN, book, LARGEST_LEN,
+                                        ACCOUNT, buffer, LONGEST_LEN - 1),
                    (fervolatro_written){.refusal = 13});
     expect_written("longest statement",
-                   fervolatro_statement(book, LARGEST_LEN, ACCOUNT, buffer,
-                                        LONGEST_LEN),
+                   fervolatro_statement(book, LARGEST_LEN, book, LARGEST_LEN,
+                                        ACCOUNT, buffer, LONGEST_LEN),
                    longest);
     expect_heading("longest header", fervolatro_header(buffer, LONGEST_LEN),
                    heading);
@@ -869,7 +821,9 @@ static void numbers_past_the_end(const uint8_t *book, const uint8_t *statement)
     for (bit = 3; bit < 64; bit++) {
         number = (UINT64_C(1) << bit) + POOLS - 1;
         expect_pool("pool of a bit more",
-                    fervolatro_balance(book, BOOK_LEN, number), no_pool);
+                    fervolatro_balance(book, BOOK_LEN, locked, LOCKED_LEN,
+                                       number),
+                    no_pool);
     }
     for (bit = 4; bit < 64; bit++) {
         number = (UINT64_C(1) << bit) + LINES - 1;
@@ -890,10 +844,12 @@ static void accounts_that_are_not_there(const uint8_t *book)
     for (bit = 0; bit < 32; bit++) {
         account = ACCOUNT ^ (UINT32_C(1) << bit);
         expect_written("length for an account of another bit",
-                       fervolatro_length(book, BOOK_LEN, account), no_account);
+                       fervolatro_length(book, BOOK_LEN, locked, LOCKED_LEN,
+                                         account),
+                       no_account);
         expect_written("account of another bit",
-                       fervolatro_statement(book, BOOK_LEN, account, buffer,
-                                            ROOM),
+                       fervolatro_statement(book, BOOK_LEN, locked, LOCKED_LEN,
+                                            account, buffer, ROOM),
                        no_account);
     }
     expect_left("account of another bit", buffer, ROOM, buffer, 0);
@@ -948,18 +904,47 @@ static void long_book(uint8_t *mapped, const uint8_t *book)
     uint8_t buffer[ROOM];
 
     memcpy(mapped, book, BOOK_LEN);
-    expect_verdict("check of a long book", fervolatro_check(mapped, len),
+    expect_verdict("check of a long book",
+                   fervolatro_check(mapped, len, locked, LOCKED_LEN),
                    (fervolatro_verdict){.refusal = 4});
-    expect_pool("balance of a long book", fervolatro_balance(mapped, len, 0),
+    expect_pool("balance of a long book",
+                fervolatro_balance(mapped, len, locked, LOCKED_LEN, 0),
                 (fervolatro_pool){.refusal = 4});
     expect_written("length of a long book",
-                   fervolatro_length(mapped, len, ACCOUNT),
+                   fervolatro_length(mapped, len, locked, LOCKED_LEN, ACCOUNT),
                    (fervolatro_written){.refusal = 4});
     memset(buffer, UNTOUCHED, ROOM);
     expect_written("statement of a long book",
-                   fervolatro_statement(mapped, len, ACCOUNT, buffer, ROOM),
+                   fervolatro_statement(mapped, len, locked, LOCKED_LEN, ACCOUNT,
+                                        buffer, ROOM),
                    (fervolatro_written){.refusal = 4});
     expect_left("statement of a long book", buffer, ROOM, buffer, 0);
+}
+
+/* The bytes begin with the locked book, which its counts make shorter: 18. */
+static void long_locked(uint8_t *mapped, const uint8_t *book)
+{
+    static const fervolatro_written refused = {.refusal = 18,
+                                               .place = CONTRACTS_AT};
+    const size_t len = TWO_TO_32 + LOCKED_LEN;
+    uint8_t buffer[ROOM];
+
+    memcpy(mapped, locked, LOCKED_LEN);
+    expect_verdict("check with a long locked book",
+                   fervolatro_check(book, BOOK_LEN, mapped, len),
+                   (fervolatro_verdict){.refusal = 18, .place = CONTRACTS_AT});
+    expect_pool("balance with a long locked book",
+                fervolatro_balance(book, BOOK_LEN, mapped, len, 0),
+                (fervolatro_pool){.refusal = 18, .place = CONTRACTS_AT});
+    expect_written("length with a long locked book",
+                   fervolatro_length(book, BOOK_LEN, mapped, len, ACCOUNT),
+                   refused);
+    memset(buffer, UNTOUCHED, ROOM);
+    expect_written("statement with a long locked book",
+                   fervolatro_statement(book, BOOK_LEN, mapped, len, ACCOUNT,
+                                        buffer, ROOM),
+                   refused);
+    expect_left("statement with a long locked book", buffer, ROOM, buffer, 0);
 }
 
 /* The bytes begin with a statement, and are longer: 14. */
@@ -1006,7 +991,8 @@ static void long_buffer(uint8_t *mapped, const uint8_t *book,
 
     memset(mapped, UNTOUCHED, ROOM);
     expect_written("statement into a long buffer",
-                   fervolatro_statement(book, BOOK_LEN, ACCOUNT, mapped, len),
+                   fervolatro_statement(book, BOOK_LEN, locked, LOCKED_LEN,
+                                        ACCOUNT, mapped, len),
                    WHOLE);
     expect_left("statement into a long buffer", mapped, ROOM, statement,
                 STATEMENT_LEN);
@@ -1036,6 +1022,7 @@ static void lengths(const char *machine, const uint8_t *book,
         return;
     }
     long_book(mapped, book);
+    long_locked(mapped, book);
     long_statement(mapped, statement);
     long_buffer(mapped, book, statement);
     long_rows(mapped, rows);
@@ -1064,17 +1051,49 @@ static void no_book_at(const uint8_t *pointer)
     static const fervolatro_written refused = {.refusal = 1};
     uint8_t buffer[ROOM];
 
-    expect_verdict("check of nothing", fervolatro_check(pointer, 0),
+    expect_verdict("check of nothing",
+                   fervolatro_check(pointer, 0, locked, LOCKED_LEN),
                    (fervolatro_verdict){.refusal = 1});
-    expect_pool("balance of nothing", fervolatro_balance(pointer, 0, 0),
+    expect_pool("balance of nothing",
+                fervolatro_balance(pointer, 0, locked, LOCKED_LEN, 0),
                 (fervolatro_pool){.refusal = 1});
-    expect_written("length of nothing", fervolatro_length(pointer, 0, ACCOUNT),
+    expect_written("length of nothing",
+                   fervolatro_length(pointer, 0, locked, LOCKED_LEN, ACCOUNT),
                    refused);
     memset(buffer, UNTOUCHED, ROOM);
     expect_written("statement of nothing",
-                   fervolatro_statement(pointer, 0, ACCOUNT, buffer, ROOM),
+                   fervolatro_statement(pointer, 0, locked, LOCKED_LEN, ACCOUNT,
+                                        buffer, ROOM),
                    refused);
     expect_left("statement of nothing", buffer, ROOM, buffer, 0);
+}
+
+/* No locked book: 17 where the book has a contract of kind 2, and nothing where it has
+ * none, as the locked one by itself. */
+static void no_locked_at(const uint8_t *pointer, const uint8_t *book)
+{
+    static const fervolatro_written refused = {.refusal = 17,
+                                               .place = CONTRACTS_AT};
+    uint8_t buffer[ROOM];
+
+    expect_verdict("check without a locked book",
+                   fervolatro_check(book, BOOK_LEN, pointer, 0),
+                   (fervolatro_verdict){.refusal = 17, .place = CONTRACTS_AT});
+    expect_pool("balance without a locked book",
+                fervolatro_balance(book, BOOK_LEN, pointer, 0, 0),
+                (fervolatro_pool){.refusal = 17, .place = CONTRACTS_AT});
+    expect_written("length without a locked book",
+                   fervolatro_length(book, BOOK_LEN, pointer, 0, ACCOUNT),
+                   refused);
+    memset(buffer, UNTOUCHED, ROOM);
+    expect_written("statement without a locked book",
+                   fervolatro_statement(book, BOOK_LEN, pointer, 0, ACCOUNT,
+                                        buffer, ROOM),
+                   refused);
+    expect_left("statement without a locked book", buffer, ROOM, buffer, 0);
+    expect_written("length of a book that wants no other",
+                   fervolatro_length(locked, LOCKED_LEN, pointer, 0, ACCOUNT),
+                   (fervolatro_written){.length = HEADER_LEN});
 }
 
 /* No statement: 14, whatever else is lent. */
@@ -1112,10 +1131,12 @@ static void no_buffer_at(uint8_t *pointer, const uint8_t *book,
     static const fervolatro_written no_room = {.refusal = 13};
 
     expect_written("statement into nothing",
-                   fervolatro_statement(book, BOOK_LEN, ACCOUNT, pointer, 0),
+                   fervolatro_statement(book, BOOK_LEN, locked, LOCKED_LEN,
+                                        ACCOUNT, pointer, 0),
                    no_room);
     expect_written("statement of no account into nothing",
-                   fervolatro_statement(book, BOOK_LEN, 0, pointer, 0),
+                   fervolatro_statement(book, BOOK_LEN, locked, LOCKED_LEN, 0,
+                                        pointer, 0),
                    (fervolatro_written){.refusal = 11});
     expect_written("rewrite into nothing",
                    fervolatro_rewrite(statement, STATEMENT_LEN, pointer, 0),
@@ -1125,11 +1146,14 @@ static void no_buffer_at(uint8_t *pointer, const uint8_t *book,
                    no_room);
 }
 
-/* Neither slice has a byte. */
+/* No slice has a byte. */
 static void nothing_into_nothing(const uint8_t *from, uint8_t *into)
 {
+    expect_verdict("check of nothing beside nothing",
+                   fervolatro_check(from, 0, into, 0),
+                   (fervolatro_verdict){.refusal = 1});
     expect_written("statement of nothing into nothing",
-                   fervolatro_statement(from, 0, ACCOUNT, into, 0),
+                   fervolatro_statement(from, 0, into, 0, ACCOUNT, into, 0),
                    (fervolatro_written){.refusal = 1});
     expect_written("rewrite of nothing into nothing",
                    fervolatro_rewrite(from, 0, into, 0),
@@ -1146,6 +1170,7 @@ static void slices_of_no_bytes(uint8_t *book, uint8_t *statement,
     size_t i, other;
 
     no_book_at(book);
+    no_locked_at(locked, book);
     no_statement_at(statement);
     no_rows_at(rows);
     no_buffer_at((uint8_t[1]){0}, book, statement);
@@ -1153,6 +1178,7 @@ static void slices_of_no_bytes(uint8_t *book, uint8_t *statement,
     nowhere(pointers);
     for (i = 0; i < POINTERS; i++) {
         no_book_at(pointers[i]);
+        no_locked_at(pointers[i], book);
         no_statement_at(pointers[i]);
         no_rows_at(pointers[i]);
         no_buffer_at(pointers[i], book, statement);
@@ -1200,16 +1226,18 @@ static void calls_on_a_front(const uint8_t *front, size_t len, uint8_t *buffer)
         written = WHOLE;
         pool = POOL[0];
     }
-    expect_verdict("check before a wall", fervolatro_check(front, len),
+    expect_verdict("check before a wall",
+                   fervolatro_check(front, len, locked, LOCKED_LEN),
                    (fervolatro_verdict){.refusal = refusal});
     expect_written("length before a wall",
-                   fervolatro_length(front, len, ACCOUNT), written);
-    expect_written("statement before a wall",
-                   fervolatro_statement(front, len, ACCOUNT, buffer,
-                                        STATEMENT_LEN),
+                   fervolatro_length(front, len, locked, LOCKED_LEN, ACCOUNT),
                    written);
-    expect_pool("balance before a wall", fervolatro_balance(front, len, 0),
-                pool);
+    expect_written("statement before a wall",
+                   fervolatro_statement(front, len, locked, LOCKED_LEN, ACCOUNT,
+                                        buffer, STATEMENT_LEN),
+                   written);
+    expect_pool("balance before a wall",
+                fervolatro_balance(front, len, locked, LOCKED_LEN, 0), pool);
 }
 
 static void books_before_a_wall(const uint8_t *book, const uint8_t *statement)
@@ -1225,6 +1253,72 @@ static void books_before_a_wall(const uint8_t *book, const uint8_t *statement)
         expect_left("statement before a wall", buffer, STATEMENT_LEN, statement,
                     len == BOOK_LEN ? STATEMENT_LEN : 0);
     }
+}
+
+/* The same of the first bytes of the locked book, where there are any. */
+static void calls_beside_a_front(const uint8_t *book, const uint8_t *front,
+                                 size_t len)
+{
+    const int is_whole = len == LOCKED_LEN;
+    const fervolatro_verdict verdict = {.refusal = is_whole ? 0 : 18,
+                                        .place = is_whole ? 0 : CONTRACTS_AT};
+    const fervolatro_written refused = {.refusal = 18, .place = CONTRACTS_AT};
+    const fervolatro_pool no_pool = {.refusal = 18, .place = CONTRACTS_AT};
+    uint8_t buffer[STATEMENT_LEN];
+
+    expect_verdict("check, locked before a wall",
+                   fervolatro_check(book, BOOK_LEN, front, len), verdict);
+    expect_written("length, locked before a wall",
+                   fervolatro_length(book, BOOK_LEN, front, len, ACCOUNT),
+                   is_whole ? WHOLE : refused);
+    expect_written("statement, locked before a wall",
+                   fervolatro_statement(book, BOOK_LEN, front, len, ACCOUNT,
+                                        buffer, STATEMENT_LEN),
+                   is_whole ? WHOLE : refused);
+    expect_pool("balance, locked before a wall",
+                fervolatro_balance(book, BOOK_LEN, front, len, 4),
+                is_whole ? POOL[4] : no_pool);
+}
+
+static void locked_before_a_wall(const uint8_t *book)
+{
+    uint8_t *end = before_a_wall(LOCKED_LEN) + LOCKED_LEN;
+    size_t len;
+
+    for (len = 1; len <= LOCKED_LEN; len++) {
+        memcpy(end - len, locked, len);
+        calls_beside_a_front(book, end - len, len);
+    }
+}
+
+/* Bytes that nobody may read are lent as the locked book, and the contract is of kind
+ * 1: none of them is looked at. The accounts are then 3 and 5 and ACCOUNT. */
+static void a_locked_book_that_is_closed(const uint8_t *book)
+{
+    const uint8_t *closed = before_a_wall(0);
+    const size_t len = 100;
+    uint8_t ordinary[BOOK_LEN], buffer[STATEMENT_LEN];
+
+    memcpy(ordinary, book, BOOK_LEN);
+    put(ordinary, CONTRACTS_AT + 4, 1, 1);
+    expect_verdict("check beside closed bytes",
+                   fervolatro_check(ordinary, BOOK_LEN, closed, len),
+                   (fervolatro_verdict){0});
+    expect_written("length beside closed bytes",
+                   fervolatro_length(ordinary, BOOK_LEN, closed, len, ACCOUNT),
+                   WHOLE);
+    expect_written("account of the locked book beside closed bytes",
+                   fervolatro_length(ordinary, BOOK_LEN, closed, len, 4),
+                   (fervolatro_written){.refusal = 11});
+    expect_written("statement beside closed bytes",
+                   fervolatro_statement(ordinary, BOOK_LEN, closed, len, ACCOUNT,
+                                        buffer, STATEMENT_LEN),
+                   WHOLE);
+    expect_pool("balance beside closed bytes",
+                fervolatro_balance(ordinary, BOOK_LEN, closed, len, 0),
+                (fervolatro_pool){.amount = POOL[0].amount,
+                                  .lines = 3,
+                                  .sum = POOL[0].sum});
 }
 
 /* ---- What a caller's compiler leaves open. */
@@ -1243,12 +1337,17 @@ typedef struct {
 typedef void any_call(void);
 typedef void *read_call(void *answer, const uint8_t *bytes, size_t len);
 typedef void *length_call(void *answer, const uint8_t *book, size_t len,
+                          const uint8_t *other, size_t other_len,
                           uint32_t account);
+typedef void *balance_call(void *answer, const uint8_t *book, size_t len,
+                           const uint8_t *other, size_t other_len,
+                           uint64_t pool);
 typedef void *numbered_call(void *answer, const uint8_t *bytes, size_t len,
                             uint64_t number);
 typedef void *named_call(void *answer, const uint8_t *bytes, size_t len,
                          uint32_t name, uint64_t number);
 typedef void *statement_call(void *answer, const uint8_t *book, size_t len,
+                             const uint8_t *other, size_t other_len,
                              uint32_t account, uint8_t *buffer, size_t room);
 typedef void *rewrite_call(void *answer, const uint8_t *statement, size_t len,
                            uint8_t *buffer, size_t room);
@@ -1282,17 +1381,16 @@ static void painted_answers_on_a_book(const uint8_t *book)
     length_call *length_into = (length_call *)(any_call *)fervolatro_length;
     statement_call *statement_into =
         (statement_call *)(any_call *)fervolatro_statement;
-    numbered_call *balance_into =
-        (numbered_call *)(any_call *)fervolatro_balance;
+    balance_call *balance_into = (balance_call *)(any_call *)fervolatro_balance;
     uint8_t buffer[STATEMENT_LEN];
     painted answer;
 
-    length_into(paint(&answer), book, BOOK_LEN, ACCOUNT);
+    length_into(paint(&answer), book, BOOK_LEN, locked, LOCKED_LEN, ACCOUNT);
     expect_painted("length, painted", &answer, WRITTEN_FIELDS, &WHOLE);
-    statement_into(paint(&answer), book, BOOK_LEN, ACCOUNT, buffer,
-                   length_asked(book));
+    statement_into(paint(&answer), book, BOOK_LEN, locked, LOCKED_LEN, ACCOUNT,
+                   buffer, length_asked(book));
     expect_painted("statement, painted", &answer, WRITTEN_FIELDS, &WHOLE);
-    balance_into(paint(&answer), book, BOOK_LEN, 0);
+    balance_into(paint(&answer), book, BOOK_LEN, locked, LOCKED_LEN, 0);
     expect_painted("balance, painted", &answer, POOL_FIELDS, &POOL[0]);
 }
 
@@ -1333,8 +1431,12 @@ static void painted_answers_on_rows(const uint8_t *rows)
 /* An account has 32 bits, and the upper half of the register that it comes in may
  * hold anything (the same section of the ABI). */
 typedef fervolatro_written wide_length_call(const uint8_t *book, size_t len,
+                                            const uint8_t *other,
+                                            size_t other_len,
                                             uint64_t account);
 typedef fervolatro_written wide_account_call(const uint8_t *book, size_t len,
+                                             const uint8_t *other,
+                                             size_t other_len,
                                              uint64_t account, uint8_t *buffer,
                                              size_t room);
 
@@ -1348,10 +1450,11 @@ static void account_in_a_wide_register(const uint8_t *book)
     uint8_t buffer[STATEMENT_LEN];
 
     expect_written("length for an account in a wide register",
-                   length_of(book, BOOK_LEN, account), WHOLE);
+                   length_of(book, BOOK_LEN, locked, LOCKED_LEN, account),
+                   WHOLE);
     expect_written("account in a wide register",
-                   statement_of(book, BOOK_LEN, account, buffer,
-                                length_asked(book)),
+                   statement_of(book, BOOK_LEN, locked, LOCKED_LEN, account,
+                                buffer, length_asked(book)),
                    WHOLE);
 }
 
@@ -1380,6 +1483,42 @@ static void fields_that_differ(void)
     expect_distinct("the raise payment", COST_FIELDS, &RAISE_PAYMENT);
 }
 
+static void calls_on_books(const uint8_t *book, const uint8_t *statement)
+{
+    good_calls_on_the_book(book);
+    exchanged_books(book);
+    lengths_of_the_two_slices(book);
+    good_call_for_a_statement(book, statement);
+    refused_calls_on_a_book();
+    refused_for_the_locked_book();
+    longest_statement();
+    accounts_that_are_not_there(book);
+    painted_answers_on_a_book(book);
+    account_in_a_wide_register(book);
+    books_before_a_wall(book, statement);
+    locked_before_a_wall(book);
+    a_locked_book_that_is_closed(book);
+}
+
+static void calls_on_statements(const uint8_t *statement)
+{
+    good_calls_on_the_statement(statement);
+    good_call_for_all_lines(statement);
+    refused_calls_on_a_statement(statement);
+    refused_calls_for_all_lines(statement);
+    painted_answers_on_a_statement(statement);
+}
+
+static void calls_on_rows(const uint8_t *rows)
+{
+    good_calls_on_rows(rows);
+    refused_calls_on_rows();
+    services_that_are_not_there(rows);
+    constraints_that_are_not_there(rows);
+    painted_answers_on_rows(rows);
+    id_in_a_wide_register(rows);
+}
+
 int main(int argc, char **argv)
 {
     uint8_t book[BOOK_LEN], statement[STATEMENT_LEN], rows[ROWS_LEN];
@@ -1389,32 +1528,17 @@ int main(int argc, char **argv)
         return 2;
     }
     make_book(book);
+    make_locked();
     make_statement(statement);
     make_rows(rows);
 
     fields_that_differ();
-    good_calls_on_the_book(book);
-    good_call_for_a_statement(book, statement);
-    good_calls_on_the_statement(statement);
-    good_call_for_all_lines(statement);
-    good_calls_on_rows(rows);
-    refused_calls_on_a_book();
-    refused_calls_on_a_statement(statement);
-    refused_calls_for_all_lines(statement);
-    refused_calls_on_rows();
-    longest_statement();
+    calls_on_books(book, statement);
+    calls_on_statements(statement);
+    calls_on_rows(rows);
     numbers_past_the_end(book, statement);
-    accounts_that_are_not_there(book);
-    services_that_are_not_there(rows);
-    constraints_that_are_not_there(rows);
-    painted_answers_on_a_book(book);
-    painted_answers_on_a_statement(statement);
-    painted_answers_on_rows(rows);
-    account_in_a_wide_register(book);
-    id_in_a_wide_register(rows);
     lengths(argv[1], book, statement, rows);
     slices_of_no_bytes(book, statement, rows);
-    books_before_a_wall(book, statement);
 
     return failures == 0 ? EXIT_SUCCESS : EXIT_FAILURE;
 }

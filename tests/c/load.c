@@ -104,13 +104,14 @@ static void balances(const uint8_t *book)
     uint64_t number;
 
     for (number = 0; number < 3; number++) {
-        fervolatro_pool pool = library.balance(book, BOOK_LEN, number);
+        fervolatro_pool pool =
+            library.balance(book, BOOK_LEN, NULL, 0, number);
 
         expect("balance", (int64_t)pool.refusal, FERVOLATRO_NOT_REFUSED);
         expect("lines of a pool", (int64_t)pool.lines, 7);
         expect("left over", pool.amount + pool.sum, left[number]);
     }
-    expect("pool 3", (int64_t)library.balance(book, BOOK_LEN, 3).refusal,
+    expect("pool 3", (int64_t)library.balance(book, BOOK_LEN, NULL, 0, 3).refusal,
            FERVOLATRO_REFUSED_PAST_END);
 }
 
@@ -118,12 +119,12 @@ static void balances(const uint8_t *book)
  * reads so many bytes. */
 static size_t lengths(const uint8_t *book)
 {
-    fervolatro_written asked = library.length(book, BOOK_LEN, 8);
+    fervolatro_written asked = library.length(book, BOOK_LEN, NULL, 0, 8);
 
     expect("length for account 8", (int64_t)asked.refusal,
            FERVOLATRO_REFUSED_NO_ACCOUNT);
     expect("which is none", (int64_t)asked.length, 0);
-    asked = library.length(book, BOOK_LEN, 7);
+    asked = library.length(book, BOOK_LEN, NULL, 0, 7);
     expect("length for account 7", (int64_t)asked.refusal,
            FERVOLATRO_NOT_REFUSED);
     expect("its place", (int64_t)asked.place, 0);
@@ -145,14 +146,38 @@ static uint8_t *write_statement(const uint8_t *book, size_t len)
         fprintf(stderr, "no memory\n");
         exit(2);
     }
-    written = library.statement(book, BOOK_LEN, 8, statement, len);
+    written = library.statement(book, BOOK_LEN, NULL, 0, 8, statement, len);
     expect("account 8", (int64_t)written.refusal, FERVOLATRO_REFUSED_NO_ACCOUNT);
-    written = library.statement(book, BOOK_LEN, 7, statement, len - 1);
+    written = library.statement(book, BOOK_LEN, NULL, 0, 7, statement, len - 1);
     expect("311 bytes", (int64_t)written.refusal, FERVOLATRO_REFUSED_BUFFER);
-    written = library.statement(book, BOOK_LEN, 7, statement, len);
+    written = library.statement(book, BOOK_LEN, NULL, 0, 7, statement, len);
     expect("account 7", (int64_t)written.refusal, FERVOLATRO_NOT_REFUSED);
     expect("its statement's length", (int64_t)written.length, (int64_t)len);
     return statement;
+}
+
+/* The worked book with a test payment of 0 behind it, all of whose benefit is
+ * NSW1's: 1,000,000 = 0x0F4240. The worked book is its locked one, and has two
+ * accounts. */
+static void locked_book(const uint8_t *book)
+{
+    enum { LEN = BOOK_LEN + FERVOLATRO_CONTRACT_SIZE };
+    uint8_t with_test[LEN] = {0}, *contract = with_test + BOOK_LEN;
+    fervolatro_verdict verdict;
+
+    memcpy(with_test, book, BOOK_LEN);
+    with_test[20] = 1;
+    contract[0] = 1;
+    contract[4] = FERVOLATRO_CONTRACT_TEST;
+    memcpy(contract + 16, (uint8_t[]){0x40, 0x42, 0x0F}, 3);
+    verdict = library.check(with_test, LEN, NULL, 0);
+    expect("no locked book", (int64_t)verdict.refusal,
+           FERVOLATRO_REFUSED_NO_LOCKED);
+    expect("its place", (int64_t)verdict.place, BOOK_LEN);
+    verdict = library.check(with_test, LEN, book, BOOK_LEN);
+    expect("a locked book", (int64_t)verdict.refusal, FERVOLATRO_NOT_REFUSED);
+    expect("lines of the test payment",
+           (int64_t)library.balance(with_test, LEN, book, BOOK_LEN, 3).lines, 4);
 }
 
 static void read_back(const uint8_t *statement)
@@ -233,10 +258,11 @@ int main(int argc, char **argv)
     loaded = load(argv[1]);
     read_book(argv[2], book);
 
-    expect("check", (int64_t)library.check(book, BOOK_LEN).refusal,
+    expect("check", (int64_t)library.check(book, BOOK_LEN, NULL, 0).refusal,
            FERVOLATRO_NOT_REFUSED);
     statement = write_statement(book, lengths(book));
     balances(book);
+    locked_book(book);
     read_back(statement);
     read_all(statement);
     write_again(statement);

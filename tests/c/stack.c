@@ -1,11 +1,13 @@
 /*
  * Sees how much stack the library's calls use: each is made on a stack of its
- * own, painted before. A book and an account are the arguments. Prints the bytes
- * that each call paints over: a check, the length of the account's statement, the
- * statement into just so many bytes, the balances (the most over all pools), the
- * statement's header, its first line, all its lines and the statement written again,
- * and a payment and a base cost (the most over few dispatch rows and many). Exits
- * non-zero if one of them passes its limit.
+ * own, painted before. A book and an account are the arguments, and a locked book if
+ * there is one. Prints the bytes that each call paints over: a check, the length of
+ * the account's statement, the statement into just so many bytes, the balances (the
+ * most over all pools), the statement's header, its first line, all its lines and the
+ * statement written again, and a payment and a base cost (the most over few dispatch
+ * rows and many). Of the calls on books and statements it is the most over that book
+ * and the largest ones, alone and with a locked book as large. Exits non-zero if one
+ * of them passes its limit.
  */
 #define _XOPEN_SOURCE 700
 
@@ -16,6 +18,8 @@
 #include <ucontext.h>
 
 #include "fervolatro.h"
+
+#include "books.h"
 
 enum {
     ROOM = 1 << 20,
@@ -28,22 +32,23 @@ enum {
  * that more is seen; of the calls on a statement and on dispatch rows what the most
  * of them needs. No call may have more than 4,096. */
 enum {
-    CHECK_LIMIT = 512,
-    LENGTH_LIMIT = 752,
-    STATEMENT_LIMIT = 1072,
-    BALANCE_LIMIT = 3456,
+    CHECK_LIMIT = 704,
+    LENGTH_LIMIT = 976,
+    STATEMENT_LIMIT = 1408,
+    BALANCE_LIMIT = 3696,
     READING_LIMIT = 240,
     DISPATCH_LIMIT = 192
 };
 
 /* A byte more than any book has: a longer file is then refused. */
 static uint8_t book[FERVOLATRO_LARGEST_BOOK + 1];
+static uint8_t locked[FERVOLATRO_LARGEST_BOOK + 1];
 /* Memory for any statement, of which just the one's length is lent. */
 static uint8_t statement[FERVOLATRO_LARGEST_STATEMENT];
 static uint8_t buffer[FERVOLATRO_LARGEST_STATEMENT];
 static fervolatro_fields lines[FERVOLATRO_MOST_LINES];
 static uint8_t rows[MANY_ROWS * FERVOLATRO_DISPATCH_ROW_SIZE];
-static size_t book_len, statement_len, rows_len;
+static size_t book_len, locked_len, statement_len, rows_len;
 static uint32_t account;
 static uint64_t pool, refusal;
 
@@ -54,12 +59,13 @@ static void nothing(void)
 
 static void check(void)
 {
-    refusal = fervolatro_check(book, book_len).refusal;
+    refusal = fervolatro_check(book, book_len, locked, locked_len).refusal;
 }
 
 static void find_length(void)
 {
-    fervolatro_written asked = fervolatro_length(book, book_len, account);
+    fervolatro_written asked =
+        fervolatro_length(book, book_len, locked, locked_len, account);
 
     refusal = asked.refusal;
     statement_len = (size_t)asked.length;
@@ -68,14 +74,15 @@ static void find_length(void)
 /* The length was asked first, and just so much is lent. */
 static void write_statement(void)
 {
-    refusal = fervolatro_statement(book, book_len, account, statement,
-                                   statement_len)
+    refusal = fervolatro_statement(book, book_len, locked, locked_len, account,
+                                   statement, statement_len)
                   .refusal;
 }
 
 static void balance(void)
 {
-    refusal = fervolatro_balance(book, book_len, pool).refusal;
+    refusal =
+        fervolatro_balance(book, book_len, locked, locked_len, pool).refusal;
 }
 
 static void read_header(void)
@@ -150,31 +157,111 @@ static size_t used_by(void (*call)(void))
     return all - painted_over(nothing);
 }
 
-/* The most over all pools. They end where the number is refused. */
-static size_t used_by_balances(void)
-{
-    size_t used, most = 0;
+/* ---- What is measured, in the order in which it is printed. */
 
+static struct measured {
+    const char *name;
+    void (*call)(void);
+    size_t limit, most;
+} calls[] = {
+    {"check", check, CHECK_LIMIT, 0},
+    {"length", find_length, LENGTH_LIMIT, 0},
+    {"statement", write_statement, STATEMENT_LIMIT, 0},
+    {"balance", balance, BALANCE_LIMIT, 0},
+    {"header", read_header, READING_LIMIT, 0},
+    {"line", read_line, READING_LIMIT, 0},
+    {"lines", read_lines, READING_LIMIT, 0},
+    {"rewrite", rewrite, READING_LIMIT, 0},
+    {"payment", make_payment, DISPATCH_LIMIT, 0},
+    {"base cost", make_base_cost, DISPATCH_LIMIT, 0},
+};
+
+enum { CALLS = sizeof calls / sizeof calls[0], ON_BOOKS = CALLS - 2 };
+
+/* A refused call may end early, and say little. */
+static void measure(struct measured *measured)
+{
+    size_t used;
+
+    measured->call();
+    if (refusal != 0) {
+        fprintf(stderr, "%s: refused %" PRIu64 "\n", measured->name, refusal);
+        exit(2);
+    }
+    used = used_by(measured->call);
+    measured->most = used > measured->most ? used : measured->most;
+}
+
+/* All pools, which end where the number is refused. */
+static void measure_balances(struct measured *measured)
+{
     for (pool = 0;; pool++) {
-        used = used_by(balance);
-        most = used > most ? used : most;
         balance();
-        if (refusal != 0) {
-            return most;
+        if (refusal == FERVOLATRO_REFUSED_PAST_END) {
+            return;
+        }
+        measure(measured);
+    }
+}
+
+/* The calls on the books and on the account's statement. The length is asked before
+ * the statement is written, and that is read then. */
+static void measure_books(void)
+{
+    size_t i;
+
+    for (i = 0; i < ON_BOOKS; i++) {
+        if (calls[i].call == balance) {
+            measure_balances(&calls[i]);
+        } else {
+            measure(&calls[i]);
         }
     }
 }
 
-static void read_book(const char *path)
+/* The largest books: one alone, and one whose contracts want the other. All units of
+ * the first are ACCOUNT's, and those of the locked one each have an account. */
+static void measure_largest(void)
+{
+    account = ACCOUNT;
+    book_len = LARGEST_LEN;
+    locked_len = 0;
+    make_largest(book, 0, 1);
+    measure_books();
+    locked_len = LARGEST_LEN;
+    make_largest(book, 0, 2);
+    make_largest(locked, 1, 1);
+    measure_books();
+}
+
+/* Few rows and many. */
+static void measure_rows(void)
+{
+    static const size_t counts[] = {FEW_ROWS, MANY_ROWS};
+    size_t i, call;
+
+    for (i = 0; i < sizeof counts / sizeof counts[0]; i++) {
+        rows_len = counts[i] * FERVOLATRO_DISPATCH_ROW_SIZE;
+        for (call = ON_BOOKS; call < CALLS; call++) {
+            measure(&calls[call]);
+        }
+    }
+}
+
+/* ---- What it is measured on, and the report. */
+
+static size_t read_book(const char *path, uint8_t *into)
 {
     FILE *file = fopen(path, "rb");
+    size_t len;
 
     if (file == NULL) {
         perror(path);
         exit(2);
     }
-    book_len = fread(book, 1, sizeof book, file);
+    len = fread(into, 1, FERVOLATRO_LARGEST_BOOK + 1, file);
     fclose(file);
+    return len;
 }
 
 /* A payment row, then one of each constraint from 1 on: raise regulation in NSW1,
@@ -193,70 +280,33 @@ static void make_rows(void)
     }
 }
 
-/* Prints what a call uses, and says whether that keeps within its limit. */
-static int shown(const char *name, size_t used, size_t limit)
+/* Says whether every call keeps within its limit. */
+static int report(void)
 {
-    static const char *between = "";
+    int kept = 1;
+    size_t i;
 
-    printf("%s%s %zu", between, name, used);
-    between = ", ";
-    return used <= limit;
-}
-
-/* A refused call may end early, and say little. */
-static void see_accepted(const char *name, void (*call)(void))
-{
-    call();
-    if (refusal != 0) {
-        fprintf(stderr, "%s: refused %" PRIu64 "\n", name, refusal);
-        exit(2);
+    for (i = 0; i < CALLS; i++) {
+        printf("%s%s %zu", i == 0 ? "" : ", ", calls[i].name, calls[i].most);
+        kept &= calls[i].most <= calls[i].limit;
     }
-}
-
-static int accepted_and_shown(const char *name, void (*call)(void),
-                              size_t limit)
-{
-    see_accepted(name, call);
-    return shown(name, used_by(call), limit);
-}
-
-/* The most over few rows and many. */
-static int shown_over_rows(const char *name, void (*call)(void))
-{
-    static const size_t counts[] = {FEW_ROWS, MANY_ROWS};
-    size_t i, used, most = 0;
-
-    for (i = 0; i < sizeof counts / sizeof counts[0]; i++) {
-        rows_len = counts[i] * FERVOLATRO_DISPATCH_ROW_SIZE;
-        see_accepted(name, call);
-        used = used_by(call);
-        most = used > most ? used : most;
-    }
-    return shown(name, most, DISPATCH_LIMIT);
+    printf("\n");
+    return kept;
 }
 
 int main(int argc, char **argv)
 {
-    int kept;
-
-    if (argc != 3) {
-        fprintf(stderr, "usage: %s BOOK ACCOUNT\n", argv[0]);
+    if (argc != 3 && argc != 4) {
+        fprintf(stderr, "usage: %s BOOK ACCOUNT [LOCKED]\n", argv[0]);
         return 2;
     }
-    read_book(argv[1]);
-    make_rows();
+    book_len = read_book(argv[1], book);
     account = (uint32_t)strtoul(argv[2], NULL, 10);
+    locked_len = argc == 4 ? read_book(argv[3], locked) : 0;
+    make_rows();
 
-    kept = accepted_and_shown("check", check, CHECK_LIMIT);
-    kept &= accepted_and_shown("length", find_length, LENGTH_LIMIT);
-    kept &= accepted_and_shown("statement", write_statement, STATEMENT_LIMIT);
-    kept &= shown("balance", used_by_balances(), BALANCE_LIMIT);
-    kept &= accepted_and_shown("header", read_header, READING_LIMIT);
-    kept &= accepted_and_shown("line", read_line, READING_LIMIT);
-    kept &= accepted_and_shown("lines", read_lines, READING_LIMIT);
-    kept &= accepted_and_shown("rewrite", rewrite, READING_LIMIT);
-    kept &= shown_over_rows("payment", make_payment);
-    kept &= shown_over_rows("base cost", make_base_cost);
-    printf("\n");
-    return kept ? EXIT_SUCCESS : EXIT_FAILURE;
+    measure_books();
+    measure_largest();
+    measure_rows();
+    return report() ? EXIT_SUCCESS : EXIT_FAILURE;
 }

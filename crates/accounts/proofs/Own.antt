@@ -1,4 +1,4 @@
--- What was found over a book's rows, said of the account's own rows; and in an accepted book its energy is at most its region's.
+-- What was found over a book's rows, said of the account's own rows; and in a sound book its energy is at most its region's.
 -- Assumes nothing.
 use Prim.Native.Nat.{ℕ, _<_}
 use mathlib.Core.Path.{_≡_, refl, sym, _∙_}
@@ -10,7 +10,7 @@ use Rattle.totals.specs.Inner.Totals.{Five, entryOf}
 use Rattle.totals.specs.Sums.{rowBy}
 use Rattle.totals.proofs.Turns.{entry-with, under-rule, totals-once}
 use Rattle.book.specs.Book.{Book}
-use Rattle.book.specs.Inner.Accepted.{ownTotal, AtMostEntry, Promise}
+use Rattle.book.specs.Inner.Accepted.{ownTotal, AtMostEntry, Sound}
 use Rattle.accounts.specs.Rows.{rowsOf, keep, sumOf, none}
 use Rattle.accounts.specs.Account.{rowsOfAccount, ownBy, ownEnergy, unknown}
 use Rattle.accounts.specs.Inner.Held.{HeldIs}
@@ -29,17 +29,17 @@ own-in B account g f =
     (λ i. both (eqb (B .energy i .account) account) (eqb (B .energy i .region) g) (f (B .energy i)))
     (B .header .energies)
 
-module _ {B : Book} (h : Promise B) (account g : ℕ) where
+module _ {B : Book} (h : Sound B) (account g : ℕ) where
   pub own-within : g < 5 → AtMostEntry (B .entry g) (ownEnergy (rowsOfAccount B account .energies) g)
   unfolding ownEnergy
   own-within l =
       record {
-        each = λ b. rw (entry-with (ownBy (rowsOfAccount B account .energies) g) b, ← own-in B account g (rowBy b), ← entry-with (λ b. ownTotal B account g (rowBy b)) b) (h .sound .own account g l .each b);
+        each = λ b. rw (entry-with (ownBy (rowsOfAccount B account .energies) g) b, ← own-in B account g (rowBy b), ← entry-with (λ b. ownTotal B account g (rowBy b)) b) (h .own account g l .each b);
       }
 
   -- so it keeps an entry's rule
   pub own-rule : g < 5 → EntryRule (ownEnergy (rowsOfAccount B account .energies) g)
-  own-rule l = under-rule (own-within l .each) (h .sound .fields .entries g l)
+  own-rule l = under-rule (own-within l .each) (h .fields .entries g l)
 
 -- ---- what was found
 

@@ -45,6 +45,14 @@ rowsOfAccount B account =
       units = keep (λ r. eqb (r .account) account) (rowsOf (B .unit) (B .header .units));
     }
 
+-- 02, Req 04: "the locked region totals and the account's energy rows and unit rows in the locked book"
+pub record LockedPart : Type 0 where
+  pub entries : List Entry
+  pub rows : Rows
+
+unfoldable pub lockedOf : Book → ℕ → LockedPart
+lockedOf L account = record { entries = rowsOf (L .entry) 5; rows = rowsOfAccount L account }
+
 -- an account's own energy of one kind in region g. "Missing energy rows count as 0."
 abbrev pub ownBy : List EnergyRow → ℕ → Basis → ℕ
 ownBy rows g b = sumOf (λ r. cond (eqb (r .region) g) (rowBy b r) 0) rows
@@ -56,3 +64,7 @@ ownEnergy rows g = entryWith (ownBy rows g)
 -- 11: "no unit row and no energy row names the account"
 abbrev pub unknown : Rows → Bool
 unknown rows = none (rows .units) && none (rows .energies)
+
+-- 02, Req 04: "11 when no book read names the account"
+abbrev pub unnamed : Rows → LockedPart → Bool
+unnamed rows locked = unknown rows && unknown (locked .rows)

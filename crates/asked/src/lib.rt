@@ -5,10 +5,12 @@ ghost use mathlib.Core.List.{List};
 ghost use Prim.Native.Nat.{ℕ};
 ghost use Rattle.reading.specs.Rewriting.{rewritten};
 ghost use Rattle.unpacking.specs.Unpacking.{unpacked};
+ghost use Rattle.book.specs.Table.{lockedFor};
 ghost use Rattle.settlement.specs.Settle.{outcome};
 ghost use Rattle.demands.specs.Demand1.{CheckAnswered, LengthAnswered, PoolAnswered, HeadingAnswered, EntryAnswered, CostAnswered, Gives, Answered, onAStatement, onRewriting};
 ghost use Rattle.demands.specs.Demand2.{NumbersAreTheGuides, StatementIsTheGuides, LinesAreTheLineCalls, PoolCloses};
 ghost use Rattle.demands.specs.Length.{AskedFirst, AsLongAsTheGuides};
+ghost use Rattle.demands.specs.Unread.{NoTestPayment};
 ghost use Rattle.demands.specs.Demand3.{Agree, AgreeButForCosts, Way, CostsMade, Same};
 use answers::CostAnswer;
 use answers::EntryAnswer;
@@ -17,32 +19,37 @@ use answers::PoolAnswer;
 use answers::VerdictAnswer;
 use answers::WrittenAnswer;
 
-pub fn check(book: &[u8]) -> VerdictAnswer
-    ensures { λ r. ⌜ CheckAnswered (now (book .entry)) r ⌝ }
-    ensures { λ r. ⌜ (r .refusal ≡ 0 → NumbersAreTheGuides (now (book .entry))) ⌝ }
+pub fn check<'a>(book: &'a [u8], locked: &'a [u8]) -> VerdictAnswer
+    ensures { λ r. ⌜ CheckAnswered (now (book .entry)) (now (locked .entry)) r ⌝ }
+    ensures { λ r. ⌜ (r .refusal ≡ 0 → NumbersAreTheGuides (now (book .entry)) × NumbersAreTheGuides (lockedFor (now (book .entry)) (now (locked .entry)))) ⌝ }
 {
-    fervolatro::fervolatro_check(book)
+    fervolatro::fervolatro_check(book, locked)
 }
 
-pub fn length(book: &[u8], account: u32) -> WrittenAnswer
+pub fn length<'a>(book: &'a [u8], locked: &'a [u8], account: u32) -> WrittenAnswer
     ensures { λ r. ⌜ LengthAnswered r ⌝ }
-    ensures { λ r. ⌜ (r .refusal ≡ 0 → AsLongAsTheGuides (now (book .entry)) account r) ⌝ }
+    ensures { λ r. ⌜ (r .refusal ≡ 0 → AsLongAsTheGuides (now (book .entry)) (now (locked .entry)) account r) ⌝ }
 {
-    fervolatro::fervolatro_length(book, account)
+    fervolatro::fervolatro_length(book, locked, account)
 }
 
-pub fn statement(book: &[u8], account: u32, buffer: &mut [u8]) -> WrittenAnswer
-    ensures { λ r. ⌜ Answered onAStatement (outcome (now (book .entry)) account) (now (buffer .entry)) r (now (buffer .exit)) ⌝ }
-    ensures { λ r. ⌜ (r .refusal ≡ 0 → StatementIsTheGuides (now (book .entry)) account (now (buffer .entry)) r (now (buffer .exit))) ⌝ }
+pub fn statement<'a>(
+    book: &'a [u8],
+    locked: &'a [u8],
+    account: u32,
+    buffer: &mut [u8],
+) -> WrittenAnswer
+    ensures { λ r. ⌜ Answered onAStatement (outcome (now (book .entry)) (now (locked .entry)) account) (now (buffer .entry)) r (now (buffer .exit)) ⌝ }
+    ensures { λ r. ⌜ (r .refusal ≡ 0 → StatementIsTheGuides (now (book .entry)) (now (locked .entry)) account (now (buffer .entry)) r (now (buffer .exit))) ⌝ }
 {
-    fervolatro::fervolatro_statement(book, account, buffer)
+    fervolatro::fervolatro_statement(book, locked, account, buffer)
 }
 
-pub fn balance(book: &[u8], number: u64) -> PoolAnswer
+pub fn balance<'a>(book: &'a [u8], locked: &'a [u8], number: u64) -> PoolAnswer
     ensures { λ r. ⌜ PoolAnswered r ⌝ }
-    ensures { λ r. ⌜ (r .refusal ≡ 0 → PoolCloses (now (book .entry)) number r) ⌝ }
+    ensures { λ r. ⌜ (r .refusal ≡ 0 → PoolCloses (now (book .entry)) (now (locked .entry)) number r) ⌝ }
 {
-    fervolatro::fervolatro_balance(book, number)
+    fervolatro::fervolatro_balance(book, locked, number)
 }
 
 pub fn header(bytes: &[u8]) -> HeadingAnswer
@@ -90,35 +97,59 @@ pub struct Both {
 }
 
 // The length asked for, and then the statement: how the two answers stand to each other, whatever is lent.
-pub fn asked_first(book: &[u8], account: u32, buffer: &mut [u8]) -> Both
+pub fn asked_first<'a>(book: &'a [u8], locked: &'a [u8], account: u32, buffer: &mut [u8]) -> Both
     ensures { λ r. ⌜ AskedFirst (now (buffer .entry)) (r .first) (r .second) (now (buffer .exit)) ⌝ }
 {
-    let first = fervolatro::fervolatro_length(book, account);
-    let second = fervolatro::fervolatro_statement(book, account, buffer);
+    let first = fervolatro::fervolatro_length(book, locked, account);
+    let second = fervolatro::fervolatro_statement(book, locked, account, buffer);
     Both { first, second }
 }
 
-// The lengths of one account's statements from two books.
-pub fn lengths(book: &[u8], other: &[u8], account: u32) -> Both
-    ensures { λ r. ⌜ (Agree (now (book .entry)) (now (other .entry)) account → r .first ≡ r .second) ⌝ }
+// The lengths of one account's statements from two books, each with a locked one.
+pub fn lengths<'a>(
+    book: &'a [u8],
+    locked: &'a [u8],
+    other: &'a [u8],
+    beside: &'a [u8],
+    account: u32,
+) -> Both
+    ensures { λ r. ⌜ (Agree (now (book .entry)) (now (locked .entry)) (now (other .entry)) (now (beside .entry)) account → r .first ≡ r .second) ⌝ }
 {
-    let first = fervolatro::fervolatro_length(book, account);
-    let second = fervolatro::fervolatro_length(other, account);
+    let first = fervolatro::fervolatro_length(book, locked, account);
+    let second = fervolatro::fervolatro_length(other, beside, account);
     Both { first, second }
 }
 
-// The statements of one account from two books, also from two whose costs are made from the same dispatch rows.
-pub fn neighbours(
-    book: &[u8],
-    other: &[u8],
+// The statements of one account from two books, each with a locked one, also from two whose costs are made from the same dispatch rows.
+pub fn neighbours<'a>(
+    book: &'a [u8],
+    locked: &'a [u8],
+    other: &'a [u8],
+    beside: &'a [u8],
     account: u32,
     buffer: &mut [u8],
     another: &mut [u8],
 ) -> Both
-    ensures { λ r. ⌜ (Agree (now (book .entry)) (now (other .entry)) account → now (buffer .entry) ≡ now (another .entry) → Same (r .first) (r .second) (now (buffer .exit)) (now (another .exit))) ⌝ }
-    ensures { λ r. ⌜ ((rows : List ℕ) (way : ℕ → Way) → AgreeButForCosts (now (book .entry)) (now (other .entry)) account → CostsMade rows way (now (book .entry)) → CostsMade rows way (now (other .entry)) → now (buffer .entry) ≡ now (another .entry) → Same (r .first) (r .second) (now (buffer .exit)) (now (another .exit))) ⌝ }
+    ensures { λ r. ⌜ (Agree (now (book .entry)) (now (locked .entry)) (now (other .entry)) (now (beside .entry)) account → now (buffer .entry) ≡ now (another .entry) → Same (r .first) (r .second) (now (buffer .exit)) (now (another .exit))) ⌝ }
+    ensures { λ r. ⌜ ((rows : List ℕ) (way : ℕ → Way) → AgreeButForCosts (now (book .entry)) (now (locked .entry)) (now (other .entry)) (now (beside .entry)) account → CostsMade rows way (now (book .entry)) → CostsMade rows way (now (other .entry)) → now (buffer .entry) ≡ now (another .entry) → Same (r .first) (r .second) (now (buffer .exit)) (now (another .exit))) ⌝ }
 {
-    let first = fervolatro::fervolatro_statement(book, account, buffer);
-    let second = fervolatro::fervolatro_statement(other, account, another);
+    let first = fervolatro::fervolatro_statement(book, locked, account, buffer);
+    let second = fervolatro::fervolatro_statement(other, beside, account, another);
+    Both { first, second }
+}
+
+// The statements of one account from one book, with two slices lent as its locked one.
+pub fn unread<'a>(
+    book: &'a [u8],
+    locked: &'a [u8],
+    beside: &'a [u8],
+    account: u32,
+    buffer: &mut [u8],
+    another: &mut [u8],
+) -> Both
+    ensures { λ r. ⌜ (NoTestPayment (now (book .entry)) → now (buffer .entry) ≡ now (another .entry) → Same (r .first) (r .second) (now (buffer .exit)) (now (another .exit))) ⌝ }
+{
+    let first = fervolatro::fervolatro_statement(book, locked, account, buffer);
+    let second = fervolatro::fervolatro_statement(book, beside, account, another);
     Both { first, second }
 }

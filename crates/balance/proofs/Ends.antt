@@ -2,6 +2,9 @@
 use Prim.Native.Nat.{ℕ, _<_}
 use mathlib.Core.Path.{_≡_, refl, sym, ap, _∙_}
 use mathlib.Core.Bool.{Bool, true, false}
+use mathlib.Core.Logic.{⊎-elim}
+use borrow.Author.Tests.{eq-eqb, ne-eqb}
+use Rattle.sections.proofs.Cases.{is-zero}
 use mathlib.Core.List.{List}
 use Rattle.sections.specs.declared.Verdict.{Verdict}
 use Rattle.sections.specs.declared.Verdict.the-variants as verdict
@@ -9,20 +12,20 @@ use Rattle.records.specs.declared.rows.Constraint.{Constraint}
 use Rattle.records.specs.declared.rows.Contract.{Contract}
 use Rattle.book.specs.Header.{headerOf}
 use Rattle.book.specs.declared.header.Header.{Header}
-use Rattle.book.specs.Book.{Book, bookIn}
-use Rattle.book.specs.Inner.Facts.{Laid}
-use Rattle.book.specs.Table.{verdict}
-use Rattle.book.specs.Inner.Accepted.{Promise, AcceptedBook}
-use Rattle.book.proofs.Promise.{accepted}
+use Rattle.book.specs.Book.{Book, bookIn, bookOf}
+use Rattle.book.specs.Table.{entriesBy, verdict}
+use Rattle.locking.specs.Locking.{settledBy, pick}
+use Rattle.book.specs.Inner.Accepted.{SettlesTests, Promise}
+use Rattle.book.proofs.Second.{is-locked}
 use Rattle.totals.specs.Inner.Energies.{Energies}
 use Rattle.accounts.specs.Account.{publicOf}
 use Rattle.accounts.specs.Inner.Energies.{energiesOf}
 use Rattle.balance.specs.Pools.{constraintPool, contractPool, poolsIn}
 use Rattle.balance.specs.Balance.{balanceIn, answerTo, balancesIn, balanceIf, balanceOf}
 use Rattle.balance.specs.Inner.Places.{PlaceIs}
-use Rattle.balance.specs.Inner.Rests.{OfConstraint, Counted}
+use Rattle.balance.specs.Inner.Rests.{Counted}
 use Rattle.recovery.specs.Inner.Rests.{PaidBy}
-use Rattle.balance.specs.Inner.Shapes.{belongs, contingencyShape, regulationShape, contractShape}
+use Rattle.balance.specs.Inner.Shapes.{belongs, contingencyShape, regulationShape, constraintShape, contractShape}
 use Rattle.balance.specs.declared.Balance.{Balance}
 use Rattle.balance.specs.declared.Balanced.{Balanced}
 use Rattle.balance.specs.declared.Balanced.the-variants as balanced
@@ -35,34 +38,25 @@ use Rattle.balance.proofs.Balances.{contingency-balance, regulation-bal
 
 -- ---- the verdict
 
-module _ (b : List ℕ) (number : ℕ) {v : Verdict} (q : v ≡ verdict b) where
-  pub end-refused : {n p : ℕ} → v ≡ verdict.Refused n p → balanced.Refused n p ≡ balanceOf b number
+module _ (b l : List ℕ) (number : ℕ) {v : Verdict} (q : v ≡ verdict b l) where
+  pub end-refused : {n p : ℕ} → v ≡ verdict.Refused n p → balanced.Refused n p ≡ balanceOf b l number
   unfolding balanceOf balanceIf
   end-refused e = rw (sym q ∙ e)
 
-  module _ (e : v ≡ verdict.Accepted) where
-    pub given : AcceptedBook b
-    given = accepted b (sym q ∙ e)
-
-    pub laid-in : {h : Header} → h ≡ headerOf b → Laid b h
-    laid-in i = rw i (record { few = given .promise .sound .few; long = given .long })
-
-    pub promised-in : {h : Header} → h ≡ headerOf b → Promise (bookIn b h)
-    promised-in i = rw i (given .promise)
-
-    pub end-balanced : {h : Header} {x : Balanced} → h ≡ headerOf b → x ≡ balancesIn (bookIn b h) number → x ≡ balanceOf b number
+  module _ (e : v ≡ verdict.Accepted) {h : Header} (i : h ≡ headerOf b) {s : List ℕ} (t : SettlesTests b h l s) where
+    pub end-balanced : {x : Balanced} → x ≡ balancesIn (bookIn b h) (bookOf s) number → x ≡ balanceOf b l number
     unfolding balanceOf balanceIf
-    end-balanced i h = rw (sym q ∙ e) (rw i at h)
+    end-balanced w = rw (sym q ∙ e) (rw (i, is-locked b l q e i t) at w)
 
 -- ---- the place
 
-module _ (b : List ℕ) (h : Header) (number : ℕ) {x : Place} (q : PlaceIs (bookIn b h .constraint) (h .constraints) (h .contracts) number x) where
+module _ (b : List ℕ) (h : Header) (L : Book) (number : ℕ) {x : Place} (q : PlaceIs (bookIn b h .constraint) (h .constraints) (h .contracts) number x) where
   module _ {j : ℕ} {kind : Kind} (e : x ≡ place.Constraint j kind) where
     pub constraint-in : (j < h .constraints) × (belongs (bookIn b h .constraint j) kind ≡ true)
     unfolding PlaceIs
     constraint-in = let p = rw e at q in (p .0, p .1 .0)
 
-    pub end-constraint : {y : Balance} → y ≡ balanceIn (bookIn b h) (constraintPool (bookIn b h .constraint j) kind) → balanced.Pool y ≡ balancesIn (bookIn b h) number
+    pub end-constraint : {y : Balance} → y ≡ balanceIn (bookIn b h) L (constraintPool (bookIn b h .constraint j) kind) → balanced.Pool y ≡ balancesIn (bookIn b h) L number
     unfolding PlaceIs balancesIn answerTo poolsIn publicOf
     end-constraint r = let p = rw e at q in rw (p .1 .1 (bookIn b h .contract), r)
 
@@ -71,11 +65,11 @@ module _ (b : List ℕ) (h : Header) (number : ℕ) {x : Place} (q : PlaceIs (bo
     unfolding PlaceIs
     contract-in = let p = rw e at q in p .0
 
-    pub end-contract : {y : Balance} → y ≡ balanceIn (bookIn b h) (contractPool (bookIn b h .contract i)) → balanced.Pool y ≡ balancesIn (bookIn b h) number
+    pub end-contract : {y : Balance} → y ≡ balanceIn (bookIn b h) L (contractPool (bookIn b h .contract i)) → balanced.Pool y ≡ balancesIn (bookIn b h) L number
     unfolding PlaceIs balancesIn answerTo poolsIn publicOf
     end-contract r = let p = rw e at q in rw (p .1 (bookIn b h .contract), r)
 
-  pub end-15 : x ≡ place.Past → balanced.Refused 15 0 ≡ balancesIn (bookIn b h) number
+  pub end-15 : x ≡ place.Past → balanced.Refused 15 0 ≡ balancesIn (bookIn b h) L number
   unfolding PlaceIs balancesIn answerTo poolsIn publicOf
   end-15 e = let p = rw e at q in rw (p (bookIn b h .contract))
 
@@ -90,23 +84,27 @@ only-contingency r Used e o = let x : _≡_ {A = Bool} false true = rw e at o in
 only-contingency r Unused e o = let x : _≡_ {A = Bool} false true = rw e at o in cc
 only-contingency r Payment e o = let x : _≡_ {A = Bool} false true = o in cc
 
-module _ {B : Book} (p : Promise B) where
-  module _ (j : ℕ) (l : j < B .header .constraints) (kind : Kind) (o : belongs (B .constraint j) kind ≡ true) (r : Constraint) (e : r ≡ B .constraint j) where
-    pub of-constraint : OfConstraint B r
-    of-constraint = record { place = j; within = l; same = e }
+module _ {B L : Book} (p : Promise B L) {c : ℕ} (n : Counted B L c) where
+  pub end-priced : (j : ℕ) → j < B .header .constraints → (kind : Kind) → belongs (B .constraint j) kind ≡ true → {x : Balance} → x ≡ constraintShape B c (B .constraint j) kind → x ≡ balanceIn B L (constraintPool (B .constraint j) kind)
+  unfolding constraintShape
+  end-priced j l kind o s =
+      ⊎-elim
+      (λ (m : B .constraint j .mode ≡ 0). (rw (eq-eqb (B .constraint j .mode) 0 m, n .all) at s) ∙ sym (contingency-balance p j l m) ∙ ap (λ (k : Kind). balanceIn B L (constraintPool (B .constraint j) k)) (sym (only-contingency (B .constraint j) kind m o)))
+      (λ (d : B .constraint j .mode ≡ 0 → ⊥). (rw (ne-eqb (B .constraint j .mode) 0 d, n .all) at s) ∙ sym (regulation-balance p j kind l d o))
+      (is-zero (B .constraint j .mode))
 
-    pub end-contingency : {E : Energies} {c : ℕ} {x : Balance} → r .mode ≡ 0 → E ≡ energiesOf B → Counted B c → x ≡ contingencyShape E c r → x ≡ balanceIn B (constraintPool (B .constraint j) kind)
-    end-contingency z q n s =
-        let m = rw e at z in
-        rw (q, n .all, e) at s ∙ sym (contingency-balance p j l m) ∙ ap (λ (k : Kind). balanceIn B (constraintPool (B .constraint j) k)) (sym (only-contingency (B .constraint j) kind m o))
+  pub end-paid : (i : ℕ) → i < B .header .contracts → {k : Contract} → k ≡ B .contract i → {x : Balance} → x ≡ contractShape (energiesOf (pick (settledBy k) B L)) c k → x ≡ balanceIn B L (contractPool (B .contract i))
+  end-paid i l e s = rw (n .all, e) at s ∙ sym (contract-balance p i l)
 
-    pub end-regulation : {x : Balance} → (r .mode ≡ 0 → ⊥) → x ≡ regulationShape B r kind → x ≡ balanceIn B (constraintPool (B .constraint j) kind)
-    end-regulation z s =
-        s ∙ ap (λ (r : Constraint). regulationShape B r kind) e ∙ sym (regulation-balance p j kind l (λ m. z (ap (λ (r : Constraint). r .mode) e ∙ m)) o)
+pub paid-in : {B L : Book} → Promise B L → (i : ℕ) → i < B .header .contracts → {k : Contract} → k ≡ B .contract i → PaidBy (entriesBy B L k) k
+paid-in p i l e = rw e (paid-by p i l)
 
-  module _ (i : ℕ) (l : i < B .header .contracts) (k : Contract) (e : k ≡ B .contract i) where
-    pub paid-in : PaidBy (B .entry) k
-    paid-in = rw e (paid-by p i l)
+-- a constraint's balance by its mode
+module _ (B : Book) (c : ℕ) (kind : Kind) {r : Constraint} (j : ℕ) (e : r ≡ B .constraint j) where
+  pub shape-0 : {E : Energies} {x : Balance} → r .mode ≡ 0 → E ≡ energiesOf B → x ≡ contingencyShape E c r → x ≡ constraintShape B c (B .constraint j) kind
+  unfolding constraintShape
+  shape-0 m q s = rw (q, e) at s ∙ rw (eq-eqb (B .constraint j .mode) 0 (rw e at m))
 
-    pub end-paid : {E : Energies} {c : ℕ} {x : Balance} → E ≡ energiesOf B → Counted B c → x ≡ contractShape E c k → x ≡ balanceIn B (contractPool (B .contract i))
-    end-paid q n s = rw (q, n .all, e) at s ∙ sym (contract-balance p i l)
+  pub shape-live : {x : Balance} → (r .mode ≡ 0 → ⊥) → x ≡ regulationShape B c r kind → x ≡ constraintShape B c (B .constraint j) kind
+  unfolding constraintShape
+  shape-live d s = rw e at s ∙ rw (ne-eqb (B .constraint j .mode) 0 (rw e at d))

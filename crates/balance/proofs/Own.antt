@@ -15,7 +15,7 @@ use Rattle.totals.specs.declared.entries.Totals.{Totals}
 use Rattle.sections.proofs.Cases.{five}
 use Rattle.totals.proofs.Turns.{entry-with, entries-are}
 use Rattle.book.specs.Book.{Book}
-use Rattle.book.specs.Inner.Accepted.{Promise}
+use Rattle.book.specs.Inner.Accepted.{Sound}
 use Rattle.accounts.specs.Rows.{rowsOf}
 use Rattle.accounts.specs.Account.{rowsOfAccount, ownBy, ownEnergy}
 use Rattle.accounts.proofs.Lists.{total-rows}
@@ -56,11 +56,11 @@ module _ (B : Book) (a : ℕ) where
   unfolding ownEnergy
   own-entry g l = entries-are _ _ (λ b. own-sum b g l ∙ own-rows b g ∙ sym (entry-with (ownBy (rowsOfAccount B a .energies) g) b))
 
-  own-counted : Promise B → Counted (B .energy) (B .header .energies) (λ i. eqb (B .energy i .account) a) (entryOf (ownOf B a))
+  own-counted : Sound B → Counted (B .energy) (B .header .energies) (λ i. eqb (B .energy i .account) a) (entryOf (ownOf B a))
   unfolding ownTotalBy
-  own-counted p = record { low = λ i l. p .sound .fields .energies i l .region; sums = own-sum }
+  own-counted p = record { low = λ i l. p .fields .energies i l .region; sums = own-sum }
 
-module _ {B : Book} (p : Promise B) (a : ℕ) where
+module _ {B : Book} (p : Sound B) (a : ℕ) where
   -- over a constraint's regions
   pub own-constraint : (r : Constraint) (amount : ℕ) → overRegions (entryOf (ownOf B a)) r ≡ ownInPart (partOf (B .entry) r amount) (B .energy) (B .header .energies) a
   unfolding ownInPart

@@ -22,18 +22,23 @@ use Rattle.records.specs.declared.rows.Contract.{Contract}
 use Rattle.factors.specs.Naming.{idOf, keyOf}
 use Rattle.totals.specs.Divisors.{overRegions}
 use Rattle.totals.specs.Inner.Totals.{entryOf}
+use Rattle.totals.specs.Inner.Energies.{Energies}
+use Rattle.locking.specs.Locking.{settledBy, pick}
+use Rattle.locking.specs.declared.Source.{Source}
+use Rattle.locking.specs.declared.Source.the-variants.{Current, Locked}
 use Rattle.book.specs.Book.{Book}
-use Rattle.book.specs.Inner.Accepted.{Promise}
+use Rattle.book.specs.Inner.Accepted.{Sound, Promise}
 use Rattle.amounts.specs.Pools.{poolsOf, residualPools, halvesOf}
 use Rattle.amounts.specs.Shares.{byFactor, byEnergy}
 use Rattle.amounts.specs.declared.pools.Pools.{Pools}
 use Rattle.amounts.specs.declared.pools.Residual.{Residual}
-use Rattle.accounts.specs.Account.{publicOf, rowsOfAccount}
+use Rattle.accounts.specs.Inner.Energies.{energiesOf}
+use Rattle.accounts.specs.declared.energies.OwnEnergies.{OwnEnergies}
 use Rattle.sharing.specs.Inner.Shares.{shareIn}
 use Rattle.statement.specs.declared.Line.{Line}
 use Rattle.lines.specs.Lines.{contingencyLine, unitLines, restLines, regionLines}
-use Rattle.settlement.specs.Settle.{linesOf}
-use Rattle.lines.specs.Inner.Walks.{ownLines, unitLinesAt, conLines, conLinesAt, contractLinesAt, bookLines}
+use Rattle.settlement.specs.Settle.{linesFor}
+use Rattle.lines.specs.Inner.Walks.{ownLines, unitLinesAt, conLines, conLinesAt, contractLinesAt, totalsFrom, ownFrom, bookLines}
 use Rattle.settlement.proofs.Link.{lines-link}
 use Rattle.walk.proofs.Order.{rises-once}
 use Rattle.balance.specs.Pools.{Pool, constraintPool, contractPool, hasPart, inPool}
@@ -88,7 +93,7 @@ module _ (t : Line → Bool) where
       three : (a b c : Line) → a .id ≡ r .id → b .id ≡ r .id → c .id ≡ r .id → a .part ≤ 8 → b .part ≤ 8 → c .part ≤ 8 → Kept t (cond (eqb (r .mode) 1) (a ∷ b ∷ c ∷ []) (c ∷ [])) 0 0 0
       three a b c d e f x y z = kept-either (eqb (r .mode) 1) (kept-out a (h a d x) (kept-out b (h b e y) (out c f z))) (out c f z)
 
-  no-contract : (entry own : ℕ → Entry) (contract : ℕ → Contract) (i : ℕ) → ((l : Line) → l .id ≡ contract i .id → 9 ≤ l .part → t l ≡ false) → Kept t (contractLinesAt entry own contract i) 0 0 0
+  no-contract : (entry own : Source → ℕ → Entry) (contract : ℕ → Contract) (i : ℕ) → ((l : Line) → l .id ≡ contract i .id → 9 ≤ l .part → t l ≡ false) → Kept t (contractLinesAt entry own contract i) 0 0 0
   unfolding contractLinesAt regionLines
   no-contract entry own contract i h =
       kept-nothing _ 5 (λ g l. kept-either (eqb (factorOf (contract i .factors) g) 0) kept-none (kept-out _ (h _ refl (omega arith)) (kept-out _ (h _ refl (omega arith)) kept-none)))
@@ -180,15 +185,27 @@ ownUnits B a id f = total (λ u. cond (eqb (B .unit u .account) a) (keyed (keyOf
 abbrev pub constraintShare : Book → ℕ → Constraint → ℕ → ℕ
 constraintShare B a r amount = shareIn (partOf (B .entry) r amount) (B .energy) (B .header .energies) a
 
-abbrev pub regionShare : Book → ℕ → Contract → ℕ → ℕ
-regionShare B a k g = shareIn (consumedPart (B .entry) k g) (B .energy) (B .header .energies) a + shareIn (sentPart (B .entry) k g) (B .energy) (B .header .energies) a
+abbrev pub regionShare : Energies → ℕ → Contract → ℕ → ℕ
+regionShare E a k g = shareIn (consumedPart (E .entry) k g) (E .row) (E .rows) a + shareIn (sentPart (E .entry) k g) (E .row) (E .rows) a
 
-module _ {B : Book} (p : Promise B) (a : ℕ) where
-  walk-kept : {t : Line → Bool} {n c d : ℕ} → Kept t (bookLines B a (ownOf B a)) n c d → Kept t (linesOf (publicOf B) (rowsOfAccount B a)) n c d
-  walk-kept h = rw (lines-link B a (ownOf B a) (own-entry B a)) h
+-- the account's energies in a book, and its two shares of a contract in a region
+shares-in : {B : Book} → Sound B → (a : ℕ) (k : Contract) (g : ℕ) → g < 5 → roundN (halvesOf (k .payment) (factorOf (k .factors) g) .consumed * entryOf (ownOf B a) g .ace) (B .entry g .ace) + roundN (halvesOf (k .payment) (factorOf (k .factors) g) .sent * entryOf (ownOf B a) g .asoe) (B .entry g .asoe) ≡ regionShare (energiesOf B) a k g
+unfolding shareIn consumedPart sentPart
+shares-in {B} p a k g l =
+    ap₂ _+_
+    (ap (λ (x : ℕ). roundN (halvesOf (k .payment) (factorOf (k .factors) g) .consumed * x) (B .entry g .ace)) (own-region p a (consumedPart (B .entry) k g) g l refl))
+    (ap (λ (x : ℕ). roundN (halvesOf (k .payment) (factorOf (k .factors) g) .sent * x) (B .entry g .asoe)) (own-region p a (sentPart (B .entry) k g) g l refl))
+
+-- its energies in two books
+abbrev ownsOf : Book → Book → ℕ → OwnEnergies
+ownsOf B L a = record { current = ownOf B a; locked = ownOf L a }
+
+module _ {B L : Book} (p : Promise B L) (a : ℕ) where
+  walk-kept : {t : Line → Bool} {n c d : ℕ} → Kept t (bookLines B L a (ownsOf B L a)) n c d → Kept t (linesFor B L a) n c d
+  walk-kept h = rw (lines-link B L a (ownsOf B L a) (own-entry B a) (own-entry L a)) h
 
   -- of a constraint's pool the constraint alone has lines
-  constraint-kept : (j : ℕ) (kind : Kind) {n c d : ℕ} → j < B .header .constraints → (kind ≡ Payment → ⊥) → Kept (inPool (constraintPool (B .constraint j) kind)) (conLinesAt (B .entry) (B .constraint) (B .unit) (B .header .units) a (ownOf B a) j) n c d → Kept (inPool (constraintPool (B .constraint j) kind)) (linesOf (publicOf B) (rowsOfAccount B a)) n c d
+  constraint-kept : (j : ℕ) (kind : Kind) {n c d : ℕ} → j < B .header .constraints → (kind ≡ Payment → ⊥) → Kept (inPool (constraintPool (B .constraint j) kind)) (conLinesAt (B .entry) (B .constraint) (B .unit) (B .header .units) a (ownOf B a) j) n c d → Kept (inPool (constraintPool (B .constraint j) kind)) (linesFor B L a) n c d
   unfolding bookLines conLinesAt constraintPool
   constraint-kept j kind l k h =
       walk-kept
@@ -198,10 +215,10 @@ module _ {B : Book} (p : Promise B) (a : ℕ) where
       (λ x e _. other-id _ x (λ z. q (rises-once (idOf (B .constraint)) (B .header .constraints) (p .sound .ordered .constraints) u j m l (sym e ∙ z)))))
       h)
       (kept-nothing _ (B .header .contracts)
-      (λ i m. no-contract _ (B .entry) (entryOf (ownOf B a)) (B .contract) i (λ x _ g. other-part _ x (priced-part kind (x .part) k g)))))
+      (λ i m. no-contract _ (totalsFrom (B .entry) (L .entry)) (ownFrom (ownsOf B L a)) (B .contract) i (λ x _ g. other-part _ x (priced-part kind (x .part) k g)))))
 
   -- and of a contract's pool the contract
-  contract-kept : (i : ℕ) {n c d : ℕ} → i < B .header .contracts → Kept (inPool (contractPool (B .contract i))) (contractLinesAt (B .entry) (entryOf (ownOf B a)) (B .contract) i) n c d → Kept (inPool (contractPool (B .contract i))) (linesOf (publicOf B) (rowsOfAccount B a)) n c d
+  contract-kept : (i : ℕ) {n c d : ℕ} → i < B .header .contracts → Kept (inPool (contractPool (B .contract i))) (contractLinesAt (totalsFrom (B .entry) (L .entry)) (ownFrom (ownsOf B L a)) (B .contract) i) n c d → Kept (inPool (contractPool (B .contract i))) (linesFor B L a) n c d
   unfolding bookLines conLinesAt contractPool
   contract-kept i l h =
       walk-kept
@@ -209,7 +226,7 @@ module _ {B : Book} (p : Promise B) (a : ℕ) where
       (kept-nothing _ (B .header .constraints)
       (λ u m. no-constraint _ (B .unit) (B .header .units) a (B .constraint u) _ _ (λ x _ g. other-part _ x (paid-part (x .part) g))))
       (kept-only _ i (B .header .contracts) l
-      (λ u m q. no-contract _ (B .entry) (entryOf (ownOf B a)) (B .contract) u
+      (λ u m q. no-contract _ (totalsFrom (B .entry) (L .entry)) (ownFrom (ownsOf B L a)) (B .contract) u
       (λ x e _. other-id _ x (λ z. q (rises-once (λ k. B .contract k .id) (B .header .contracts) (p .sound .ordered .contracts) u i m l (sym e ∙ z)))))
       h))
 
@@ -217,25 +234,22 @@ module _ {B : Book} (p : Promise B) (a : ℕ) where
 
   constraint-share : (r : Constraint) (amount : ℕ) → roundN (amount * overRegions (entryOf (ownOf B a)) r) (overRegions (B .entry) r) ≡ constraintShare B a r amount
   unfolding shareIn partOf
-  constraint-share r amount = ap (λ (x : ℕ). roundN (amount * x) (overRegions (B .entry) r)) (own-constraint p a r amount)
+  constraint-share r amount = ap (λ (x : ℕ). roundN (amount * x) (overRegions (B .entry) r)) (own-constraint (p .sound) a r amount)
 
-  region-shares : (k : Contract) (g : ℕ) → g < 5 → roundN (halvesOf (k .payment) (factorOf (k .factors) g) .consumed * entryOf (ownOf B a) g .ace) (B .entry g .ace) + roundN (halvesOf (k .payment) (factorOf (k .factors) g) .sent * entryOf (ownOf B a) g .asoe) (B .entry g .asoe) ≡ regionShare B a k g
-  unfolding shareIn consumedPart sentPart
-  region-shares k g l =
-      ap₂ _+_
-      (ap (λ (x : ℕ). roundN (halvesOf (k .payment) (factorOf (k .factors) g) .consumed * x) (B .entry g .ace)) (own-region p a (consumedPart (B .entry) k g) g l refl))
-      (ap (λ (x : ℕ). roundN (halvesOf (k .payment) (factorOf (k .factors) g) .sent * x) (B .entry g .asoe)) (own-region p a (sentPart (B .entry) k g) g l refl))
+  region-shares : (s : Source) (k : Contract) (g : ℕ) → g < 5 → roundN (halvesOf (k .payment) (factorOf (k .factors) g) .consumed * ownFrom (ownsOf B L a) s g .ace) (totalsFrom (B .entry) (L .entry) s g .ace) + roundN (halvesOf (k .payment) (factorOf (k .factors) g) .sent * ownFrom (ownsOf B L a) s g .asoe) (totalsFrom (B .entry) (L .entry) s g .asoe) ≡ regionShare (energiesOf (pick s B L)) a k g
+  region-shares Current k g l = shares-in (p .sound) a k g l
+  region-shares Locked k g l = shares-in (p .locked) a k g l
 
   -- ---- the lines of each kind of pool
 
-  pub contingency-lines : (j : ℕ) → j < B .header .constraints → B .constraint j .mode ≡ 0 → Kept (inPool (constraintPool (B .constraint j) Contingency)) (linesOf (publicOf B) (rowsOfAccount B a)) 1 0 (constraintShare B a (B .constraint j) (B .constraint j .cost))
+  pub contingency-lines : (j : ℕ) → j < B .header .constraints → B .constraint j .mode ≡ 0 → Kept (inPool (constraintPool (B .constraint j) Contingency)) (linesFor B L a) 1 0 (constraintShare B a (B .constraint j) (B .constraint j .cost))
   unfolding conLinesAt conLines
   contingency-lines j l e =
       constraint-kept j Contingency l (λ q. not-paid (cc))
       (rw (eq-eqb (B .constraint j .mode) 0 e, ← constraint-share (B .constraint j) (B .constraint j .cost)) (contingency-kept (B .constraint j) _ _))
 
   -- a line of each of the account's unit rows that name the constraint, and one of the residual
-  pub regulation-lines : (j : ℕ) (kind : Kind) → j < B .header .constraints → (B .constraint j .mode ≡ 0 → ⊥) → belongs (B .constraint j) kind ≡ true → Kept (inPool (constraintPool (B .constraint j) kind)) (linesOf (publicOf B) (rowsOfAccount B a)) (ownUnits B a (B .constraint j .id) (λ q. 1) + 1) (ownUnits B a (B .constraint j .id) (λ q. roundN (poolBy kind (poolsOf (B .constraint j)) * aboveBy kind q) 1_000_000) + constraintShare B a (B .constraint j) (creditBy kind (residualPools (B .constraint j) (poolsOf (B .constraint j))))) (ownUnits B a (B .constraint j .id) (λ q. roundN (poolBy kind (poolsOf (B .constraint j)) * belowBy kind q) 1_000_000) + constraintShare B a (B .constraint j) (chargeBy kind (residualPools (B .constraint j) (poolsOf (B .constraint j)))))
+  pub regulation-lines : (j : ℕ) (kind : Kind) → j < B .header .constraints → (B .constraint j .mode ≡ 0 → ⊥) → belongs (B .constraint j) kind ≡ true → Kept (inPool (constraintPool (B .constraint j) kind)) (linesFor B L a) (ownUnits B a (B .constraint j .id) (λ q. 1) + 1) (ownUnits B a (B .constraint j .id) (λ q. roundN (poolBy kind (poolsOf (B .constraint j)) * aboveBy kind q) 1_000_000) + constraintShare B a (B .constraint j) (creditBy kind (residualPools (B .constraint j) (poolsOf (B .constraint j))))) (ownUnits B a (B .constraint j .id) (λ q. roundN (poolBy kind (poolsOf (B .constraint j)) * belowBy kind q) 1_000_000) + constraintShare B a (B .constraint j) (chargeBy kind (residualPools (B .constraint j) (poolsOf (B .constraint j)))))
   unfolding belongs conLinesAt conLines unitLinesAt ownLines ownUnits keyed
   regulation-lines j kind l live h =
       constraint-kept j kind l (λ q. not-paid (rw q at h))
@@ -245,9 +259,9 @@ module _ {B : Book} (p : Promise B) (a : ℕ) where
       (rest-kept (B .constraint j) kind live h _ _ _)))
 
   -- two lines in each region that benefits
-  pub contract-lines : (i : ℕ) → i < B .header .contracts → Kept (inPool (contractPool (B .contract i))) (linesOf (publicOf B) (rowsOfAccount B a)) (total (λ g. cond (eqb (factorOf (B .contract i .factors) g) 0) 0 2) 5) 0 (total (λ g. cond (eqb (factorOf (B .contract i .factors) g) 0) 0 (regionShare B a (B .contract i) g)) 5)
+  pub contract-lines : (i : ℕ) → i < B .header .contracts → Kept (inPool (contractPool (B .contract i))) (linesFor B L a) (total (λ g. cond (eqb (factorOf (B .contract i .factors) g) 0) 0 2) 5) 0 (total (λ g. cond (eqb (factorOf (B .contract i .factors) g) 0) 0 (regionShare (energiesOf (pick (settledBy (B .contract i)) B L)) a (B .contract i) g)) 5)
   unfolding contractLinesAt total
   contract-lines i l = contract-kept i l (kept-joined _ _ (λ g. 0) _ 5 (λ g m. region-kept g m))
     where
-      region-kept : (g : ℕ) → g < 5 → Kept (inPool (contractPool (B .contract i))) (regionLines (B .entry) (entryOf (ownOf B a)) (B .contract i) g) (cond (eqb (factorOf (B .contract i .factors) g) 0) 0 2) 0 (cond (eqb (factorOf (B .contract i .factors) g) 0) 0 (regionShare B a (B .contract i) g))
-      region-kept g m = rw (← region-shares (B .contract i) g m) (paid-kept (B .contract i) (B .entry) (entryOf (ownOf B a)) g)
+      region-kept : (g : ℕ) → g < 5 → Kept (inPool (contractPool (B .contract i))) (regionLines (totalsFrom (B .entry) (L .entry) (settledBy (B .contract i))) (ownFrom (ownsOf B L a) (settledBy (B .contract i))) (B .contract i) g) (cond (eqb (factorOf (B .contract i .factors) g) 0) 0 2) 0 (cond (eqb (factorOf (B .contract i .factors) g) 0) 0 (regionShare (energiesOf (pick (settledBy (B .contract i)) B L)) a (B .contract i) g))
+      region-kept g m = rw (← region-shares (settledBy (B .contract i)) (B .contract i) g m) (paid-kept (B .contract i) (totalsFrom (B .entry) (L .entry) (settledBy (B .contract i))) (ownFrom (ownsOf B L a) (settledBy (B .contract i))) g)

@@ -1,6 +1,7 @@
 -- The parts by which an accepted book's pools are shared: each can be. Assumes nothing.
 use Prim.Native.Nat.{ℕ, _<_}
 use Rattle.book.specs.Book.{Book}
+use Rattle.book.specs.Table.{entriesBy}
 use Rattle.book.specs.Inner.Accepted.{Promise}
 use Rattle.accounts.proofs.Parts.{sound-of}
 use Rattle.amounts.specs.Inner.Bounds.{SmallResidual}
@@ -12,9 +13,9 @@ use Rattle.recovery.specs.Inner.Rests.{PaidBy}
 use Rattle.recovery.specs.declared.kinds.Kind.{Kind}
 use Rattle.recovery.proofs.Sharing.{credit-low, charge-low, constraint-shareable}
 
-module _ {B : Book} (p : Promise B) where
-  -- its contracts
-  pub paid-by : (i : ℕ) → i < B .header .contracts → PaidBy (B .entry) (B .contract i)
+module _ {B L : Book} (p : Promise B L) where
+  -- its contracts, by the book that settles each
+  pub paid-by : (i : ℕ) → i < B .header .contracts → PaidBy (entriesBy B L (B .contract i)) (B .contract i)
   paid-by i l = record { payment = p .sound .fields .contracts i l .payment; factor = p .sound .fields .contracts i l .factor; funded = p .funded i l }
 
   module _ (j : ℕ) (l : j < B .header .constraints) where

@@ -4,16 +4,18 @@ ghost use Prim.Native.Nat.{_+_, _*_, _≤_, _<_};
 ghost use Rattle.ground.specs.Units.{moneyLimit};
 ghost use Rattle.totals.specs.Divisors.{overRegions};
 ghost use Rattle.totals.specs.Inner.Energies.{energiesIn, PartLaid, EnergiesSound};
+ghost use Rattle.book.specs.Header.{headerOf};
 ghost use Rattle.book.specs.Book.{bookIn};
 ghost use Rattle.book.specs.Inner.Facts.{Laid};
-ghost use Rattle.book.specs.Inner.Accepted.{Promise};
+ghost use Rattle.book.specs.Inner.Accepted.{Sound, StandsIn};
 ghost use Rattle.balance.specs.Inner.Shapes.{contingencyShape, regulationShape, contractShape};
-ghost use Rattle.balance.specs.Inner.Rests.{OfConstraint, Counted};
+ghost use Rattle.balance.specs.Inner.Rests.{OfConstraint, Counted, NamesOf};
 ghost use Rattle.recovery.specs.Inner.Rests.{PaidBy};
 use crate::Balance;
 use accounts::energies;
 use amounts::shares;
 use book::header::Header;
+use joint::NamingRows;
 use numbers::sign;
 use records::rows;
 use records::rows::Constraint;
@@ -23,13 +25,14 @@ use recovery::kinds;
 use recovery::kinds::Kind;
 use recovery::regions;
 use recovery::units;
+use sections::Checked;
 use totals::entries::EnergyPart;
 
-// How many accounts the book has.
-pub(crate) fn accounts(book: &[u8], h: Header) -> usize
+// How many accounts a book has.
+fn in_book(book: &[u8], h: Header) -> usize
     requires { ⌜ Laid (now book) h ⌝ }
-    requires { ⌜ Promise (bookIn (now book) h) ⌝ }
-    ensures { λ c. ⌜ Counted (bookIn (now (book .entry)) h) c ⌝ }
+    requires { ⌜ Sound (bookIn (now book) h) ⌝ }
+    ensures { λ c. ⌜ Counted (bookIn (now (book .entry)) h) (bookIn (now (book .entry)) h) c ⌝ }
 {
     let energies = h.energies_at();
     let units = h.units_at();
@@ -39,6 +42,33 @@ pub(crate) fn accounts(book: &[u8], h: Header) -> usize
         &book[units..],
         h.units as usize,
     )
+}
+
+// Where the rows that name a book's accounts stand.
+fn naming_rows(h: Header) -> NamingRows
+    ensures { λ p. ⌜ NamesOf h p ⌝ }
+{
+    NamingRows {
+        energies: h.energies_at(),
+        n: h.energies as usize,
+        units: h.units_at(),
+        m: h.units as usize,
+    }
+}
+
+// How many accounts the book has together with the one that test payments are settled by. Where there are none of those it is the book itself,
+// and its accounts are counted once.
+pub(crate) fn accounts(book: &[u8], h: Header, locked: &[u8], l: Header) -> usize
+    requires { ⌜ Laid (now book) h × Laid (now locked) l ⌝ }
+    requires { ⌜ Sound (bookIn (now book) h) × Sound (bookIn (now locked) l) ⌝ }
+    requires { ⌜ StandsIn (now book) h (now locked) × ((l ≡ headerOf (now locked)) × (h ≡ headerOf (now book))) ⌝ }
+    ensures { λ c. ⌜ Counted (bookIn (now (book .entry)) h) (bookIn (now (locked .entry)) l) c ⌝ }
+{
+    let paid = h.contracts_at();
+    match locking::first_test(&book[paid..], h.contracts as usize) {
+        Checked::Good => in_book(book, h),
+        Checked::Bad(_) => joint::both_accounts(book, naming_rows(h), locked, naming_rows(l)),
+    }
 }
 
 // A contingency pool: a line of each account.
@@ -60,10 +90,10 @@ pub(crate) fn contingency(bytes: &[u8], e: EnergyPart, r: Constraint, count: usi
 // A regulation pool: a line of each unit row, by its factor, and a residual line of each account.
 pub(crate) fn regulation(book: &[u8], h: Header, r: Constraint, kind: Kind, count: usize) -> Balance
     requires { ⌜ Laid (now book) h ⌝ }
-    requires { ⌜ Promise (bookIn (now book) h) ⌝ }
-    requires { ⌜ OfConstraint (bookIn (now book) h) r ⌝ }
-    requires { ⌜ Counted (bookIn (now book) h) count ⌝ }
-    ensures { λ x. ⌜ x ≡ regulationShape (bookIn (now (book .entry)) h) r kind ⌝ }
+    requires { ⌜ Sound (bookIn (now book) h) ⌝ }
+    requires { ⌜ OfConstraint (bookIn (now book) h) r × (0 < overRegions (bookIn (now book) h .entry) r) ⌝ }
+    requires { ⌜ count ≤ 3248 ⌝ }
+    ensures { λ x. ⌜ x ≡ regulationShape (bookIn (now (book .entry)) h) count r kind ⌝ }
 {
     let x = kinds::recovery_of(r, kind);
     let from = h.units_at();
@@ -84,7 +114,7 @@ pub(crate) fn regulation(book: &[u8], h: Header, r: Constraint, kind: Kind, coun
 pub(crate) fn contract(bytes: &[u8], e: EnergyPart, k: Contract, count: usize) -> Balance
     requires { ⌜ PartLaid (now bytes) e ⌝ }
     requires { ⌜ EnergiesSound (energiesIn (now bytes) e) ⌝ }
-    requires { ⌜ PaidBy (energiesIn (now bytes) e .entry) k × (count ≤ 1624) ⌝ }
+    requires { ⌜ PaidBy (energiesIn (now bytes) e .entry) k × (count ≤ 3248) ⌝ }
     ensures { λ x. ⌜ x ≡ contractShape (energiesIn (now (bytes .entry)) e) count k ⌝ }
 {
     let x = contracts::payments(bytes, e, k);

@@ -3,3 +3,4 @@ pub mod Read
 pub mod Room
 pub mod Steps
 pub mod Promise
+pub mod Second

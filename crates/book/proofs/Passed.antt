@@ -1,4 +1,4 @@
--- What acceptance says of each check, and that the verdict is the table's ten in a row. Assumes nothing.
+-- What acceptance says of each check, and that the verdict is the table's twelve in a row. Assumes nothing.
 use mathlib.Core.List.{List, [], _∷_}
 use Prim.Native.Nat.{ℕ}
 use mathlib.Core.Path.{_≡_}
@@ -6,13 +6,14 @@ use Rattle.sections.specs.Refusal.{firstOf}
 use Rattle.sections.specs.declared.Verdict.the-variants.{Accepted}
 use Rattle.sections.proofs.Refusal.{first-held, first-joined}
 use Rattle.book.specs.Book.{Book, bookOf}
-use Rattle.book.specs.Table.{check1, check2, check3, check4, check5, check6, check7, check8, check9, check10, recordChecks, soundness, verdict}
+use Rattle.book.specs.Table.{check1, check2, check3, check4, check5, check6, check7, check8, check9, check17, check18, check10, recordChecks, soundness, lockedFor, verdict}
 
--- ---- the ten in a row
+-- ---- the twelve in a row
 
-pub ten-in-a-row : (b : List ℕ) → verdict b ≡ firstOf (check1 b ∷ check2 b ∷ check3 b ∷ check4 b ∷ check5 (bookOf b) ∷ check6 (bookOf b) ∷ check7 (bookOf b) ∷ check8 (bookOf b) ∷ check9 (bookOf b) ∷ check10 (bookOf b) ∷ [])
+pub twelve-in-a-row : (b l : List ℕ) → verdict b l ≡ firstOf (check1 b ∷ check2 b ∷ check3 b ∷ check4 b ∷ check5 (bookOf b) ∷ check6 (bookOf b) ∷ check7 (bookOf b) ∷ check8 (bookOf b) ∷ check9 (bookOf b) ∷ check17 (bookOf b) l ∷ check18 (bookOf b) l ∷ check10 (bookOf b) (bookOf (lockedFor b l)) ∷ [])
 unfolding verdict soundness
-ten-in-a-row b = first-joined (check1 b ∷ check2 b ∷ check3 b ∷ check4 b ∷ recordChecks (bookOf b)) (check10 (bookOf b) ∷ [])
+twelve-in-a-row b l =
+    first-joined (check1 b ∷ check2 b ∷ check3 b ∷ check4 b ∷ recordChecks (bookOf b)) (check17 (bookOf b) l ∷ check18 (bookOf b) l ∷ check10 (bookOf b) (bookOf (lockedFor b l)) ∷ [])
 
 -- ---- 5 to 9
 
@@ -48,17 +49,17 @@ sound-passed b e =
     let c4 = first-held _ _ (c3 .rest) in
     record { range = c3 .here; length = c4 .here; records = none-refused (bookOf b) (c4 .rest) }
 
--- ---- all ten
+-- ---- all of them
 
-pub record AllPassed (b : List ℕ) : Type 0 where
+pub record AllPassed (b l : List ℕ) : Type 0 where
   pub sound : soundness b ≡ Accepted
-  pub divisors : check10 (bookOf b) ≡ Accepted
+  pub fits : check18 (bookOf b) l ≡ Accepted
+  pub divisors : check10 (bookOf b) (bookOf (lockedFor b l)) ≡ Accepted
 
-pub all-passed : (b : List ℕ) → verdict b ≡ Accepted → AllPassed b
+pub all-passed : (b l : List ℕ) → verdict b l ≡ Accepted → AllPassed b l
 unfolding verdict
-all-passed b e =
+all-passed b l e =
     let s = first-held (soundness b) _ e in
-    record { sound = s .here; divisors = first-held (check10 (bookOf b)) _ (s .rest) .here }
-
-pub records-passed : (b : List ℕ) → verdict b ≡ Accepted → NoneRefused (bookOf b)
-records-passed b e = sound-passed b (all-passed b e .sound) .records
+    let lent = first-held (check17 (bookOf b) l) _ (s .rest) in
+    let fits = first-held (check18 (bookOf b) l) _ (lent .rest) in
+    record { sound = s .here; fits = fits .here; divisors = first-held (check10 (bookOf b) (bookOf (lockedFor b l))) _ (fits .rest) .here }

@@ -12,12 +12,12 @@ use Rattle.dispatch.specs.Dispatch.{payment, baseCost}
 use Rattle.dispatch.specs.declared.Cost.{Cost}
 use Rattle.dispatch.specs.declared.Cost.the-variants.{Amount}
 use Rattle.book.specs.Book.{bookOf}
+use Rattle.book.specs.Table.{lockedFor}
 use Rattle.amounts.specs.declared.pools.Pools.{Pools}
 use Rattle.amounts.specs.Pools.{poolsOf}
 use Rattle.amounts.specs.Shares.{byEnergy}
-use Rattle.accounts.specs.Account.{publicOf, rowsOfAccount}
 use Rattle.statement.specs.declared.Line.{Line}
-use Rattle.settlement.specs.Settle.{linesOf}
+use Rattle.settlement.specs.Settle.{linesFor}
 use Rattle.cases.specs.Written.{headerBytes, entryBytes, constraintBytes, unitBytes, energyBytes, dispatchBytes}
 
 -- a number above 0 and one below it, as the document writes them
@@ -72,9 +72,9 @@ workedFields =
 abbrev pub workedPools : Pools
 workedPools = poolsOf (bookOf worked .constraint 0)
 
--- account 7's lines
+-- account 7's lines. The book has no contract, and no locked book is lent
 abbrev pub workedLines : List Line
-workedLines = linesOf (publicOf (bookOf worked)) (rowsOfAccount (bookOf worked) 7)
+workedLines = linesFor (bookOf worked) (bookOf (lockedFor worked [])) 7
 
 -- a line of the listing: constraint 500 in region 0, a part, a unit, and the amount in ten-thousandths of a dollar
 abbrev pub listed : ℕ → ℕ → ℤ → Line

@@ -19,7 +19,8 @@ use Rattle.totals.specs.Sums.{entryHasSums}
 use Rattle.totals.specs.Divisors.{constraintDivides, contractDivides}
 use Rattle.book.specs.declared.header.Header.{Header}
 use Rattle.book.specs.Header.{unitsFrom, energiesFrom, contractsFrom}
-use Rattle.book.specs.Book.{bookIn}
+use Rattle.locking.specs.Locking.{settledBy, pick}
+use Rattle.book.specs.Book.{bookIn, bookOf}
 use Rattle.book.specs.Table.{check5, check6, check7, check8, check9, check10}
 
 module _ (b : List ℕ) (h : Header) where
@@ -43,9 +44,9 @@ module _ (b : List ℕ) (h : Header) where
   unfolding check9
   check9-is e f g = g ∙ rw (f, e)
 
-  pub check10-is : {k : ℕ} {shared paid : Checked} {v₁ v₂ v : Verdict} → k ≡ contractsFrom h → shared ≡ firstBad (constraintDivides (entryRow (partFrom 24 b)) (constraintRow (partFrom 84 b))) (h .constraints) → paid ≡ firstBad (contractDivides (entryRow (partFrom 24 b)) (contractRow (partFrom k b))) (h .contracts) → v₁ ≡ atRecord 10 84 40 shared → v₂ ≡ atRecord 10 k 36 paid → v ≡ earlier v₁ v₂ → v ≡ check10 (bookIn b h)
+  pub check10-is : (l : List ℕ) {k : ℕ} {shared paid : Checked} {v₁ v₂ v : Verdict} → k ≡ contractsFrom h → shared ≡ firstBad (constraintDivides (entryRow (partFrom 24 b)) (constraintRow (partFrom 84 b))) (h .constraints) → paid ≡ firstBad (λ i. contractDivides (pick (settledBy (contractRow (partFrom k b) i)) (entryRow (partFrom 24 b)) (entryRow (partFrom 24 l))) (contractRow (partFrom k b)) i) (h .contracts) → v₁ ≡ atRecord 10 84 40 shared → v₂ ≡ atRecord 10 k 36 paid → v ≡ earlier v₁ v₂ → v ≡ check10 (bookIn b h) (bookOf l)
   unfolding check10 firstOf
-  check10-is {v₂ = v₂} e p q r s a = a ∙ rw (← earlier-last v₂, r, s, p, q, e)
+  check10-is l {v₂ = v₂} e p q r s a = a ∙ rw (← earlier-last v₂, r, s, p, q, e)
 
 -- rows whose pairs rise keep the order of their first numbers
 pub keeps-first : {a x : ℕ → ℕ} {n : ℕ} → PairsRise a x n → Keeps a n

@@ -1,8 +1,10 @@
 // Checks 5 to 9 one by one, and check 10, each over the whole book. Each section is lent on from its offset, and nothing is copied.
 // What the checks before have shown stands in the requires of those after them.
 ghost use mathlib.Core.Path.{_≡_};
+ghost use Prim.Native.Nat.{_≤_};
+ghost use lib.ListN.{length};
 ghost use Rattle.sections.specs.Refusal.{firstOf};
-ghost use Rattle.book.specs.Book.{bookIn};
+ghost use Rattle.book.specs.Book.{bookIn, bookOf};
 ghost use Rattle.book.specs.Table.{check5, check6, check7, check8, check9, check10, recordChecks};
 ghost use Rattle.book.specs.Inner.Facts.{Laid, Fields, Ordered, Named};
 use book::header::Header;
@@ -107,14 +109,15 @@ fn region_sums(book: &[u8], h: Header) -> Verdict
     sections::at_record(9, 24, 12, found)
 }
 
-// 10: a total to divide by that is zero.
-pub fn zero_totals(book: &[u8], h: Header) -> Verdict
+// 10: a total to divide by that is zero, of a contract in the book that settles it.
+pub fn zero_totals<'a>(book: &'a [u8], h: Header, locked: &'a [u8]) -> Verdict
     requires { ⌜ Laid (now book) h ⌝ }
-    ensures { λ v. ⌜ v ≡ check10 (bookIn (now (book .entry)) h) ⌝ }
+    requires { ⌜ 84 ≤ length (now locked) ⌝ }
+    ensures { λ v. ⌜ v ≡ check10 (bookIn (now (book .entry)) h) (bookOf (now (locked .entry))) ⌝ }
 {
     let contracts = h.contracts_at();
     let shared = divisor_check::constraints(&book[24..], &book[84..], h.constraints as usize);
-    let paid = divisor_check::contracts(&book[24..], &book[contracts..], h.contracts as usize);
+    let paid = divisor_check::contracts(book, locked, &book[contracts..], h.contracts as usize);
     sections::earlier(
         sections::at_record(10, 84, 40, shared),
         sections::at_record(10, contracts, 36, paid),

@@ -1,7 +1,7 @@
 -- Every pool of an accepted book closes. 01, Balance: "Amount plus sum is at most half a unit of money per line, and one half more for a
 -- regulation or FPP pool, or one half more per benefiting region for a contract, in size." Assumes nothing.
 use Prim.Native.Nat.{ℕ, _+_, _*_, _≤_, _<_}
-use mathlib.Core.Path.{_≡_, refl, sym, ap, _∙_}
+use mathlib.Core.Path.{_≡_, refl, sym, ap, subst, _∙_}
 use mathlib.Core.Bool.{Bool, true, false, cond}
 use mathlib.Core.List.{[], List, _∷_}
 use mathlib.Core.Logic.{_⊎_, inl, inr, ⊎-elim}
@@ -21,16 +21,24 @@ use Rattle.sections.specs.declared.Verdict.the-variants.{Accepted}
 use Rattle.sections.proofs.Total.{total-zero}
 use Rattle.records.specs.Rows.{constraintRow, unitRow}
 use Rattle.rules.specs.Rules.{factorOf}
+use Rattle.records.specs.declared.rows.Entry.{Entry}
+use Rattle.records.specs.declared.rows.EnergyRow.{EnergyRow}
 use Rattle.records.specs.declared.rows.Constraint.{Constraint}
 use Rattle.records.specs.declared.rows.UnitRow.{UnitRow}
 use Rattle.factors.specs.Naming.{keyOf}
 use Rattle.factors.specs.Factors.{sumOver}
 use Rattle.book.specs.Book.{Book, bookOf}
-use Rattle.book.specs.Table.{verdict}
+use Rattle.locking.specs.Locking.{settledBy, pick}
+use Rattle.locking.specs.declared.Source.{Source}
+use Rattle.locking.specs.declared.Source.the-variants.{Current, Locked}
+use Rattle.locking.proofs.Picked.{picked-of}
+use Rattle.book.specs.Table.{lockedFor, verdict}
 use Rattle.book.specs.Inner.Accepted.{Promise}
 use Rattle.book.proofs.Promise.{accepted}
 use Rattle.amounts.specs.Pools.{poolsOf, residualPools, halvesOf}
 use Rattle.amounts.specs.declared.pools.Pools.{Pools}
+use Rattle.totals.specs.Inner.Energies.{EnergiesSound}
+use Rattle.recovery.specs.Inner.Rests.{PaidBy}
 use Rattle.accounts.specs.Account.{publicOf}
 use Rattle.accounts.specs.Inner.Energies.{energiesOf}
 use Rattle.accounts.proofs.Parts.{sound-of}
@@ -49,19 +57,19 @@ use Rattle.recovery.specs.declared.kinds.Kind.{Kind}
 use Rattle.recovery.specs.declared.kinds.Kind.the-variants.{Contingency, Fpp, Used, Unused, Payment}
 use Rattle.balance.proofs.Shareables.{cost-shareable, credit-shareable, charge-shareable, paid-by}
 use Rattle.recovery.proofs.Sharing.{consumed-shareable, sent-shareable}
-use Rattle.balance.proofs.Balances.{count-times, shares-once, contingency-balance, regulation-balance, contract-balance}
+use Rattle.balance.proofs.Balances.{count-times, once-in, shares-once, contingency-balance, regulation-balance, contract-balance}
 use Rattle.closing.proofs.Found.{Each, each-none, each-more, each-pool}
 use Rattle.closing.proofs.Closeness.{size-within, within-plain, within-halves, within-total, Close, nothing, close-charge, close-one, close-unless, close-choice, close-plus, close-total, close-within}
 
 -- both sides doubled, so that a half is 1
-abbrev Closes : Book → Pool → Type 0
-Closes B p = 2 * natAbs (pos (p .amount) +ℤ lineSum B p) ≤ lineCount B p + p .stages
+abbrev Closes : Book → Book → Pool → Type 0
+Closes B L p = 2 * natAbs (pos (p .amount) +ℤ lineSum B L p) ≤ lineCount B L p + p .stages
 
-closes-by : (B : Book) (p : Pool) (c : ℕ) {n d : ℕ} → balanceIn B p ≡ record { amount = pos (p .amount); lines = n; sum = less c d } → HalvesApart (n + p .stages) (p .amount + c) d → Closes B p
+closes-by : (B L : Book) (p : Pool) (c : ℕ) {n d : ℕ} → balanceIn B L p ≡ record { amount = pos (p .amount); lines = n; sum = less c d } → HalvesApart (n + p .stages) (p .amount + c) d → Closes B L p
 unfolding balanceIn
-closes-by B p c {n} {d} e w =
-    let lines : lineCount B p ≡ n = ap (λ (x : Balance). x .lines) e in
-    let sum : lineSum B p ≡ less c d = ap (λ (x : Balance). x .sum) e in
+closes-by B L p c {n} {d} e w =
+    let lines : lineCount B L p ≡ n = ap (λ (x : Balance). x .lines) e in
+    let sum : lineSum B L p ≡ less c d = ap (λ (x : Balance). x .sum) e in
     rw (lines, sum) (size-within (p .amount) c d (n + p .stages) w)
 
 -- ---- a factor with a sign lies above 0 or below, and not both
@@ -125,32 +133,32 @@ module _ (r : Constraint) (x : Pools) (s : (r .prcf ≡ 0) ⊎ (r .nrcf ≡ 0)) 
 
 -- ---- an accepted book
 
-module _ {B : Book} (p : Promise B) where
-  -- a part shared over all accounts: a half for each
-  part-within : (x : Part) → Shareable x (B .energy) (B .header .energies) → HalvesApart (length (accountsOf B)) (x .amount) (partSum x (B .energy) (B .header .energies))
-  part-within x s = rw (← shares-once B x s) (part-closing x (B .energy) (B .header .energies) (B .unit) (B .header .units) s)
+nothing-shared : (energy : ℕ → EnergyRow) (n : ℕ) (x : Part) → x .amount ≡ 0 → partSum x energy n ≡ 0
+unfolding partSum shareIn
+nothing-shared energy n x e = sum-same _ (λ a. 0) _ (λ a. rw (e, zero-mul) (round-zero (x .whole))) ∙ sum-none _
 
-  nothing-shared : (x : Part) → x .amount ≡ 0 → partSum x (B .energy) (B .header .energies) ≡ 0
-  unfolding partSum shareIn
-  nothing-shared x e = sum-same _ (λ a. 0) _ (λ a. rw (e, zero-mul) (round-zero (x .whole))) ∙ sum-none _
+module _ {B L : Book} (p : Promise B L) where
+  -- a part shared over all accounts by the energies of either book: a half for each
+  part-within : (s : Source) (x : Part) → Shareable x (pick s B L .energy) (pick s B L .header .energies) → HalvesApart (length (accountsOf B L)) (x .amount) (partSum x (pick s B L .energy) (pick s B L .header .energies))
+  part-within s x h = rw (← shares-once B L s x) (part-closing x (pick s B L .energy) (pick s B L .header .energies) (accountsOf B L) (once-in B L s) h)
 
   -- two parts of which one is 0: a half for each account all the same
-  sides-within : (x y : Part) → Shareable x (B .energy) (B .header .energies) → Shareable y (B .energy) (B .header .energies) → (x .amount ≡ 0) ⊎ (y .amount ≡ 0) → HalvesApart (length (accountsOf B)) (x .amount + partSum y (B .energy) (B .header .energies)) (y .amount + partSum x (B .energy) (B .header .energies))
+  sides-within : (x y : Part) → Shareable x (B .energy) (B .header .energies) → Shareable y (B .energy) (B .header .energies) → (x .amount ≡ 0) ⊎ (y .amount ≡ 0) → HalvesApart (length (accountsOf B L)) (x .amount + partSum y (B .energy) (B .header .energies)) (y .amount + partSum x (B .energy) (B .header .energies))
   sides-within x y s t h =
-      let v = part-within x s in
-      let w = part-within y t in
+      let v = part-within Current x s in
+      let w = part-within Current y t in
       ⊎-elim
-      (λ (e : x .amount ≡ 0). let z = nothing-shared x e in made (omega arith) (omega arith))
-      (λ (e : y .amount ≡ 0). let z = nothing-shared y e in made (omega arith) (omega arith))
+      (λ (e : x .amount ≡ 0). let z = nothing-shared (B .energy) (B .header .energies) x e in made (omega arith) (omega arith))
+      (λ (e : y .amount ≡ 0). let z = nothing-shared (B .energy) (B .header .energies) y e in made (omega arith) (omega arith))
       h
     where
       made : {n a b : ℕ} → 2 * b ≤ 2 * a + n → 2 * a ≤ 2 * b + n → HalvesApart n a b
       made u d = record { up = u; down = d }
 
-  contingency-closes : (j : ℕ) → j < B .header .constraints → B .constraint j .mode ≡ 0 → Closes B (constraintPool (B .constraint j) Contingency)
+  contingency-closes : (j : ℕ) → j < B .header .constraints → B .constraint j .mode ≡ 0 → Closes B L (constraintPool (B .constraint j) Contingency)
   unfolding constraintPool recovers stagesOf contingencyShape partOf
   contingency-closes j l e =
-      closes-by B (constraintPool (B .constraint j) Contingency) 0 (contingency-balance p j l e) (within-plain (part-within _ (cost-shareable p j l)))
+      closes-by B L (constraintPool (B .constraint j) Contingency) 0 (contingency-balance p j l e) (within-plain (part-within Current _ (cost-shareable p j l)))
 
   -- ---- regulation
 
@@ -200,7 +208,7 @@ module _ {B : Book} (p : Promise B) where
     one-stage Unused h = refl
     one-stage Payment h = cc
 
-    regulation-within : OneSided B → (kind : Kind) → belongs (B .constraint j) kind ≡ true → HalvesApart (regulationShape B (B .constraint j) kind .lines + stagesOf kind) (recovers (B .constraint j) kind + (unitCredit (B .unit) (B .header .units) (B .constraint j .id) kind (poolBy kind (poolsOf (B .constraint j))) + partSum (partOf (B .entry) (B .constraint j) (creditBy kind (residualPools (B .constraint j) (poolsOf (B .constraint j))))) (B .energy) (B .header .energies))) (unitCharge (B .unit) (B .header .units) (B .constraint j .id) kind (poolBy kind (poolsOf (B .constraint j))) + partSum (partOf (B .entry) (B .constraint j) (chargeBy kind (residualPools (B .constraint j) (poolsOf (B .constraint j))))) (B .energy) (B .header .energies))
+    regulation-within : OneSided B → (kind : Kind) → belongs (B .constraint j) kind ≡ true → HalvesApart (regulationShape B (length (accountsOf B L)) (B .constraint j) kind .lines + stagesOf kind) (recovers (B .constraint j) kind + (unitCredit (B .unit) (B .header .units) (B .constraint j .id) kind (poolBy kind (poolsOf (B .constraint j))) + partSum (partOf (B .entry) (B .constraint j) (creditBy kind (residualPools (B .constraint j) (poolsOf (B .constraint j))))) (B .energy) (B .header .energies))) (unitCharge (B .unit) (B .header .units) (B .constraint j .id) kind (poolBy kind (poolsOf (B .constraint j))) + partSum (partOf (B .entry) (B .constraint j) (chargeBy kind (residualPools (B .constraint j) (poolsOf (B .constraint j))))) (B .energy) (B .header .energies))
     unfolding regulationShape partOf
     regulation-within o kind h =
         let r = B .constraint j in
@@ -210,9 +218,9 @@ module _ {B : Book} (p : Promise B) where
         let then = sides-within _ _ (credit-shareable p j l kind) (charge-shareable p j l kind) (rest-side r (poolsOf r) (o .constraints j) kind) in
         record { up = omega arith; down = omega arith }
 
-    regulation-closes : OneSided B → (kind : Kind) → belongs (B .constraint j) kind ≡ true → Closes B (constraintPool (B .constraint j) kind)
+    regulation-closes : OneSided B → (kind : Kind) → belongs (B .constraint j) kind ≡ true → Closes B L (constraintPool (B .constraint j) kind)
     unfolding constraintPool regulationShape
-    regulation-closes o kind h = closes-by B (constraintPool (B .constraint j) kind) _ (regulation-balance p j kind l live h) (regulation-within o kind h)
+    regulation-closes o kind h = closes-by B L (constraintPool (B .constraint j) kind) _ (regulation-balance p j kind l live h) (regulation-within o kind h)
 
   -- ---- contracts
 
@@ -224,48 +232,60 @@ module _ {B : Book} (p : Promise B) where
         close-total (B .contract i .payment) _ (λ g. 0) _ (λ g. 0) _ 5
         (λ g m. close-unless (B .contract i .payment) (factorOf (B .contract i .factors) g) (eqb (factorOf (B .contract i .factors) g) 0) (eqb-true (factorOf (B .contract i .factors) g) 0))
 
+    -- the energies of the book that settles it can be shared
+    abbrev source : Source
+    source = settledBy (B .contract i)
+
+    picked-sound : (s : Source) → EnergiesSound (energiesOf (pick s B L))
+    picked-sound Current = sound-of (p .sound)
+    picked-sound Locked = sound-of (p .locked)
+
+    picked-paid : PaidBy (pick source B L .entry) (B .contract i)
+    picked-paid = subst (λ (entry : ℕ → Entry). PaidBy entry (B .contract i)) (picked-of (λ (X : Book). X .entry) B L source) (paid-by p i l)
+
     -- a region's part, halved and shared: a half for each of its lines
-    region-within : (g : ℕ) → g < 5 → HalvesApart (cond (eqb (factorOf (B .contract i .factors) g) 0) 0 (2 * length (accountsOf B))) (roundN (B .contract i .payment * factorOf (B .contract i .factors) g) 1_000_000) (regionPaid (energiesOf B) (B .contract i) g)
+    region-within : (g : ℕ) → g < 5 → HalvesApart (cond (eqb (factorOf (B .contract i .factors) g) 0) 0 (2 * length (accountsOf B L))) (roundN (B .contract i .payment * factorOf (B .contract i .factors) g) 1_000_000) (regionPaid (energiesOf (pick source B L)) (B .contract i) g)
     unfolding regionPaid halvesOf consumedPart sentPart
     region-within g m = by (eqb (factorOf (B .contract i .factors) g) 0) refl
       where
-        by : (t : Bool) → eqb (factorOf (B .contract i .factors) g) 0 ≡ t → HalvesApart (cond t 0 (2 * length (accountsOf B))) (roundN (B .contract i .payment * factorOf (B .contract i .factors) g) 1_000_000) (cond t 0 (partSum (consumedPart (B .entry) (B .contract i) g) (B .energy) (B .header .energies) + partSum (sentPart (B .entry) (B .contract i) g) (B .energy) (B .header .energies)))
+        by : (t : Bool) → eqb (factorOf (B .contract i .factors) g) 0 ≡ t → HalvesApart (cond t 0 (2 * length (accountsOf B L))) (roundN (B .contract i .payment * factorOf (B .contract i .factors) g) 1_000_000) (cond t 0 (partSum (consumedPart (pick source B L .entry) (B .contract i) g) (pick source B L .energy) (pick source B L .header .energies) + partSum (sentPart (pick source B L .entry) (B .contract i) g) (pick source B L .energy) (pick source B L .header .energies)))
         by true e = rw (nothing (B .contract i .payment) _ (eqb-true (factorOf (B .contract i .factors) g) 0 e)) (record { up = omega arith; down = omega arith })
         by false e =
             let d = eqb-false (factorOf (B .contract i .factors) g) 0 e in
-            within-halves _ (length (accountsOf B)) (part-within _ (consumed-shareable (sound-of (p .sound)) (paid-by p i l) g m d)) (part-within _ (sent-shareable (sound-of (p .sound)) (paid-by p i l) g m d))
+            within-halves _ (length (accountsOf B L)) (part-within source _ (consumed-shareable (picked-sound source) picked-paid g m d)) (part-within source _ (sent-shareable (picked-sound source) picked-paid g m d))
 
-    contract-within : HalvesApart (contractShape (energiesOf B) (length (accountsOf B)) (B .contract i) .lines + benefiting (B .contract i)) (B .contract i .payment + 0) (total (regionPaid (energiesOf B) (B .contract i)) 5)
+    contract-within : HalvesApart (contractShape (energiesOf (pick source B L)) (length (accountsOf B L)) (B .contract i) .lines + benefiting (B .contract i)) (B .contract i .payment + 0) (total (regionPaid (energiesOf (pick source B L)) (B .contract i)) 5)
     unfolding contractShape benefiting
     contract-within =
-        let count = count-times (λ g. eqb (factorOf (B .contract i .factors) g) 0) (2 * length (accountsOf B)) 5 in
+        let count = count-times (λ g. eqb (factorOf (B .contract i .factors) g) 0) (2 * length (accountsOf B L)) 5 in
         let first = close-within (B .contract i .payment) (B .contract i .payment) regions-close (rw (p .sound .fields .contracts i l .whole) (omega arith)) in
         let then = within-total _ _ _ 5 region-within in
         record { up = omega arith; down = omega arith }
 
-    contract-closes : Closes B (contractPool (B .contract i))
+    contract-closes : Closes B L (contractPool (B .contract i))
     unfolding contractPool contractShape
-    contract-closes = closes-by B (contractPool (B .contract i)) 0 (contract-balance p i l) contract-within
+    contract-closes = closes-by B L (contractPool (B .contract i)) 0 (contract-balance p i l) contract-within
 
   -- ---- all pools
 
-  constraint-pools-close : OneSided B → (j : ℕ) → j < B .header .constraints → Each (Closes B) (constraintPools (B .constraint j))
+  constraint-pools-close : OneSided B → (j : ℕ) → j < B .header .constraints → Each (Closes B L) (constraintPools (B .constraint j))
   unfolding constraintPools belongs
   constraint-pools-close o j l = by (eqb (B .constraint j .mode) 0) refl (eqb (B .constraint j .mode) 1) refl
     where
-      by : (x : Bool) → eqb (B .constraint j .mode) 0 ≡ x → (y : Bool) → eqb (B .constraint j .mode) 1 ≡ y → Each (Closes B) (cond x (constraintPool (B .constraint j) Contingency ∷ []) (cond y (constraintPool (B .constraint j) Fpp ∷ constraintPool (B .constraint j) Used ∷ constraintPool (B .constraint j) Unused ∷ []) (constraintPool (B .constraint j) Unused ∷ [])))
-      by true e y f = each-more (Closes B) _ [] (contingency-closes j l (eqb-true (B .constraint j .mode) 0 e)) (each-none (Closes B))
+      by : (x : Bool) → eqb (B .constraint j .mode) 0 ≡ x → (y : Bool) → eqb (B .constraint j .mode) 1 ≡ y → Each (Closes B L) (cond x (constraintPool (B .constraint j) Contingency ∷ []) (cond y (constraintPool (B .constraint j) Fpp ∷ constraintPool (B .constraint j) Used ∷ constraintPool (B .constraint j) Unused ∷ []) (constraintPool (B .constraint j) Unused ∷ [])))
+      by true e y f = each-more (Closes B L) _ [] (contingency-closes j l (eqb-true (B .constraint j .mode) 0 e)) (each-none (Closes B L))
       by false e y f =
           let closes = regulation-closes j l (eqb-false (B .constraint j .mode) 0 e) o in
-          let last = each-more (Closes B) _ [] (closes Unused (rw e)) (each-none (Closes B)) in
+          let last = each-more (Closes B L) _ [] (closes Unused (rw e)) (each-none (Closes B L)) in
           rest closes last y f
         where
-          rest : ((kind : Kind) → belongs (B .constraint j) kind ≡ true → Closes B (constraintPool (B .constraint j) kind)) → Each (Closes B) (constraintPool (B .constraint j) Unused ∷ []) → (y : Bool) → eqb (B .constraint j .mode) 1 ≡ y → Each (Closes B) (cond y (constraintPool (B .constraint j) Fpp ∷ constraintPool (B .constraint j) Used ∷ constraintPool (B .constraint j) Unused ∷ []) (constraintPool (B .constraint j) Unused ∷ []))
-          rest closes last true f = each-more (Closes B) _ _ (closes Fpp f) (each-more (Closes B) _ _ (closes Used f) last)
+          rest : ((kind : Kind) → belongs (B .constraint j) kind ≡ true → Closes B L (constraintPool (B .constraint j) kind)) → Each (Closes B L) (constraintPool (B .constraint j) Unused ∷ []) → (y : Bool) → eqb (B .constraint j .mode) 1 ≡ y → Each (Closes B L) (cond y (constraintPool (B .constraint j) Fpp ∷ constraintPool (B .constraint j) Used ∷ constraintPool (B .constraint j) Unused ∷ []) (constraintPool (B .constraint j) Unused ∷ []))
+          rest closes last true f = each-more (Closes B L) _ _ (closes Fpp f) (each-more (Closes B L) _ _ (closes Used f) last)
           rest closes last false f = last
 
-  pools-close : OneSided B → Each (Closes B) (poolsIn (publicOf B))
-  pools-close o = each-pool (Closes B) B (constraint-pools-close o) contract-closes
+  pools-close : OneSided B → Each (Closes B L) (poolsIn (publicOf B))
+  pools-close o = each-pool (Closes B L) B (constraint-pools-close o) contract-closes
 
-pub every-pool-closes : (b : List ℕ) → verdict b ≡ Accepted → (number : ℕ) (p : Pool) → poolAt (poolsIn (publicOf (bookOf b))) number ≡ found p → 2 * natAbs (pos (p .amount) +ℤ lineSum (bookOf b) p) ≤ lineCount (bookOf b) p + p .stages
-every-pool-closes b v = pools-close (accepted b v .promise) (one-sided b)
+-- l is lent as the locked book
+pub every-pool-closes : (b l : List ℕ) → verdict b l ≡ Accepted → (number : ℕ) (p : Pool) → poolAt (poolsIn (publicOf (bookOf b))) number ≡ found p → 2 * natAbs (pos (p .amount) +ℤ lineSum (bookOf b) (bookOf (lockedFor b l)) p) ≤ lineCount (bookOf b) (bookOf (lockedFor b l)) p + p .stages
+every-pool-closes b l v = pools-close (accepted b l v .promise) (one-sided b)

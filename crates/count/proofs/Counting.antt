@@ -24,7 +24,7 @@ use Rattle.records.specs.declared.rows.Constraint.{Constraint}
 use Rattle.records.specs.declared.rows.UnitRow.{UnitRow}
 use Rattle.records.specs.declared.rows.Contract.{Contract}
 use Rattle.factors.specs.Naming.{idOf, keyOf}
-use Rattle.totals.specs.Inner.Totals.{entryOf}
+use Rattle.locking.specs.Locking.{settledBy}
 use Rattle.amounts.specs.Pools.{poolsOf, residualPools}
 use Rattle.accounts.specs.Rows.{joined}
 use Rattle.accounts.proofs.Joined.{joined-none, joined-more, joined-all, joined-length}
@@ -33,7 +33,7 @@ use Rattle.book.specs.Header.{unitsFrom, contractsFrom}
 use Rattle.book.specs.declared.header.Header.{Header}
 use Rattle.lines.specs.Lines.{regionLines}
 use Rattle.groups.specs.Inner.Each.{eachOf, regionEach}
-use Rattle.lines.specs.Inner.Walks.{ownLines, unitLinesAt, conLines, conLinesAt, contractLinesAt, bookLines}
+use Rattle.lines.specs.Inner.Walks.{ownLines, unitLinesAt, conLines, conLinesAt, contractLinesAt, totalsFrom, ownFrom, bookLines}
 use Rattle.groups.proofs.Numbering.{choice-length, unit-length, rest-length, region-length, single}
 use Rattle.walk.proofs.Order.{rises-once}
 use Rattle.count.specs.Inner.Counts.{countIn, rowCount, ownRow, UnitsCounted, BareOf, Countable, MetAt, ConstraintsCounted, ContractCounted, ContractsCounted, BookCounted}
@@ -207,11 +207,11 @@ module _ (contract : ℕ → Contract) where
 
   pub contracts-more : (i : ℕ) {x y : ℕ} {k : Contract} → ContractsCounted contract i x → k ≡ contract i → ContractCounted k y → ContractsCounted contract (i + 1) (x + y)
   unfolding contractLinesAt
-  contracts-more i {x} {y} h e c =
+  contracts-more i {x} {y} {k} h e c =
       record {
         lines = λ entry own. (
             let both = length-append (joined (contractLinesAt entry own contract) i) (contractLinesAt entry own contract i) in
-            let row : y ≡ length (contractLinesAt entry own contract i) = rw e at (c .lines entry own) in
+            let row : y ≡ length (contractLinesAt entry own contract i) = rw e at (c .lines (entry (settledBy k)) (own (settledBy k))) in
             rw (← joined-more (contractLinesAt entry own contract) i) (omega (arith, h .lines entry own, row, both))
             );
         few = omega (arith, h .few, c .few);
@@ -231,6 +231,6 @@ module _ (b : List ℕ) (h : Header) (account u : ℕ) (e : u ≡ unitsFrom h) w
   unfolding bookLines
   book-counted k f m n c d =
       record {
-        lines = λ own. rw length-append (ap₂ _+_ (rw e at (c .lines (entryRow (partFrom 24 b)) own)) (rw f at (d .lines (entryRow (partFrom 24 b)) (entryOf own))));
+        lines = λ L own. rw length-append (ap₂ _+_ (rw e at (c .lines (entryRow (partFrom 24 b)) (own .current))) (rw f at (d .lines (totalsFrom (entryRow (partFrom 24 b)) (L .entry)) (ownFrom own))));
         few = omega (arith, c .few, d .few);
       }

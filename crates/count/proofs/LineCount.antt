@@ -21,6 +21,8 @@ use Rattle.totals.specs.declared.entries.Totals.{Totals}
 use Rattle.amounts.specs.Pools.{poolsOf, residualPools}
 use Rattle.amounts.specs.declared.pools.Pools.{Pools}
 use Rattle.amounts.specs.declared.pools.Residual.{Residual}
+use Rattle.locking.specs.Locking.{settledBy}
+use Rattle.locking.specs.declared.Source.{Source}
 use Rattle.accounts.specs.Rows.{joined}
 use Rattle.accounts.proofs.Joined.{joined-length, joined-bound}
 use Rattle.statement.specs.declared.Line.{Line}
@@ -100,16 +102,16 @@ module _ (entry : ℕ → Entry) (con : ℕ → Constraint) (n : ℕ) (unit : �
 
 -- ---- contracts
 
-module _ (entry own : ℕ → Entry) where
-  -- a contract has no line in a region, or two
-  region-two : (k : Contract) (g : ℕ) → length (regionLines entry own k g) ≤ 2
-  unfolding regionLines
-  region-two k g = choice-bound (eqb (factorOf (k .factors) g) 0) _ _ 2 (omega arith) (omega arith)
+-- a contract has no line in a region, or two
+region-two : (entry own : ℕ → Entry) (k : Contract) (g : ℕ) → length (regionLines entry own k g) ≤ 2
+unfolding regionLines
+region-two entry own k g = choice-bound (eqb (factorOf (k .factors) g) 0) _ _ 2 (omega arith) (omega arith)
 
+module _ (entry own : Source → ℕ → Entry) where
   -- so ten at most in all
   contract-ten : (contract : ℕ → Contract) (i : ℕ) → length (contractLinesAt entry own contract i) ≤ 10
   unfolding contractLinesAt
-  contract-ten contract i = omega (arith, joined-bound (regionLines entry own (contract i)) 2 5 (region-two (contract i)))
+  contract-ten contract i = omega (arith, joined-bound (regionLines (entry (settledBy (contract i))) (own (settledBy (contract i))) (contract i)) 2 5 (region-two (entry (settledBy (contract i))) (own (settledBy (contract i))) (contract i)))
 
   -- ten lines at most for each contract
   pub few-pays : (contract : ℕ → Contract) (n : ℕ) → length (joined (contractLinesAt entry own contract) n) ≤ 10 * n

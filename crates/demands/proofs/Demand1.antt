@@ -13,7 +13,7 @@ use Rattle.sections.specs.declared.Verdict.{Verdict}
 use Rattle.sections.specs.declared.Verdict.the-variants.{Accepted, Refused}
 use Rattle.dispatch.specs.Dispatch.{payment, baseCost, rowsVerdict, costIf}
 use Rattle.book.specs.Book.{bookOf}
-use Rattle.book.specs.Table.{verdict}
+use Rattle.book.specs.Table.{lockedFor, verdict}
 use Rattle.accounts.specs.Account.{publicOf}
 use Rattle.sharing.specs.Once.{has}
 use Rattle.statement.specs.Lent.{Outcome, refuses, gives, lengthFor, answerFor, leftIn}
@@ -56,21 +56,21 @@ unfolding lengthFor writtenAnswer
 sized (refuses number place) h r a = inr (rw a (h number place refl, refl))
 sized (gives xs) h r a = inl (rw a (refl, refl))
 
-checked : (b : List ℕ) (v : Verdict) → verdict b ≡ v → (r : VerdictAnswer) → r ≡ verdictAnswer v → CheckAnswered b r
+checked : (b t : List ℕ) (v : Verdict) → verdict b t ≡ v → (r : VerdictAnswer) → r ≡ verdictAnswer v → CheckAnswered b t r
 unfolding verdictAnswer
-checked b Accepted e r a = inl (e, a)
-checked b (Refused number place) e r a = inr (rw a (e, verdict-numbers b number place e))
+checked b t Accepted e r a = inl (e, a)
+checked b t (Refused number place) e r a = inr (rw a (e, verdict-numbers b t number place e))
 
--- a number of the first ten is one of a balance's
+-- a number of any call on a book is one of a balance's
 more : (n : ℕ) → OneOf onABook n → OneOf onABalance n
 unfolding has
 more n h = or-true (eqb 15 n) _ h
 
-pooled : (b : List ℕ) (v : Verdict) → verdict b ≡ v → (f : Found) (r : PoolAnswer) → r ≡ poolAnswer (balanceIf v (answerTo (bookOf b) f)) → PoolAnswered r
+pooled : (b t : List ℕ) (v : Verdict) → verdict b t ≡ v → (f : Found) (r : PoolAnswer) → r ≡ poolAnswer (balanceIf v (answerTo (bookOf b) (bookOf (lockedFor b t)) f)) → PoolAnswered r
 unfolding poolAnswer balanceIf answerTo has
-pooled b Accepted e past r a = inr (rw a (refl, refl))
-pooled b Accepted e (found p) r a = inl (rw a (refl, refl))
-pooled b (Refused number place) e f r a = inr (rw a (more number (verdict-numbers b number place e), refl))
+pooled b t Accepted e past r a = inr (rw a (refl, refl))
+pooled b t Accepted e (found p) r a = inl (rw a (refl, refl))
+pooled b t (Refused number place) e f r a = inr (rw a (more number (verdict-numbers b t number place e), refl))
 
 header-answered : (t : Bool) (s : List ℕ) (r : HeadingAnswer) → r ≡ headingAnswer (cond t (heading.Heading (headingAt s)) (heading.Refused 14 0)) → HeadingAnswered r
 unfolding headingAnswer has
@@ -94,10 +94,10 @@ pub every-input-is-answered : EveryInputIsAnswered
 unfolding balanceOf balancesIn headingRead lineRead rewritten unpacked payment baseCost has
 every-input-is-answered =
     record {
-      check = λ b. checked b (verdict b) refl;
-      statement = λ b account. called onAStatement (outcome b account) (statement-call-numbers b account) refl;
-      length = λ b account. sized (outcome b account) (outcome-numbers b account);
-      balance = λ b number. pooled b (verdict b) refl (poolAt (poolsIn (publicOf (bookOf b))) number);
+      check = λ b t. checked b t (verdict b t) refl;
+      statement = λ b t account. called onAStatement (outcome b t account) (statement-call-numbers b t account) refl;
+      length = λ b t account. sized (outcome b t account) (outcome-numbers b t account);
+      balance = λ b t number. pooled b t (verdict b t) refl (poolAt (poolsIn (publicOf (bookOf b))) number);
       header = λ s. header-answered (isStatement s) s;
       line = λ s index. line-answered (isStatement s) (leb (headingAt s .lines) index) s index;
       rewrite = λ s. called onRewriting (rewritten s) (statement-numbers s (statementBytes (headingAt s) (linesIn s (headingAt s .lines)))) refl;

@@ -15,10 +15,11 @@ use Rattle.sections.specs.declared.Verdict.{Verdict}
 use Rattle.sections.specs.declared.Verdict.the-variants.{Accepted, Refused}
 use Rattle.sections.proofs.Cases.{zero-one}
 use Rattle.book.specs.Book.{bookOf}
-use Rattle.book.proofs.Passed.{records-passed}
-use Rattle.book.specs.Table.{verdict, check8, check9}
+use Rattle.book.specs.Table.{check8, check9, soundness, lockedFor, verdict}
+use Rattle.book.proofs.Passed.{sound-passed, all-passed}
+use Rattle.book.proofs.Promise.{locked-passes}
 use Rattle.accounts.specs.Rows.{keep, sumOf}
-use Rattle.accounts.specs.Account.{publicOf, rowsOfAccount}
+use Rattle.accounts.specs.Account.{publicOf, rowsOfAccount, lockedOf}
 use Rattle.sharing.specs.Once.{has}
 use Rattle.statement.specs.Statement.{statementBytes}
 use Rattle.statement.specs.Lent.{Outcome, refuses, gives}
@@ -34,15 +35,14 @@ use Rattle.reading.specs.Rewriting.{rewritten}
 use Rattle.unpacking.specs.Unpacking.{allFields, unpacked}
 use Rattle.unpacking.proofs.Fields.{fields-length, fields-pieces}
 use Rattle.unpacking.proofs.Handed.{Stands, every-line-stands}
-use Rattle.settlement.specs.Settle.{headingOf, statementOf, outcome}
+use Rattle.settlement.specs.Settle.{headingOf, statementOf, linesFor, outcome}
 use Rattle.balance.specs.Pools.{Pool, Found, past, found, poolsIn, poolAt, inPool}
-use Rattle.balance.specs.Balance.{sumZ, accountsOf, poolLines, lineCount, lineSum, balanceIn, answerTo, balancesIn, balanceIf, balanceOf}
+use Rattle.balance.specs.Balance.{sumZ, poolLines, lineCount, lineSum, balanceIn, answerTo, balancesIn, balanceIf, balanceOf}
 use Rattle.balance.proofs.Accounts.{each-account-stands-once}
 use Rattle.closing.proofs.Closes.{every-pool-closes}
 use Rattle.trips.specs.ReadBack.{ReadBack}
 use Rattle.trips.proofs.Call.{passed}
 use Rattle.trips.proofs.Trip.{written-and-read}
-use Rattle.guide.specs.Guide.{guideLines}
 use Rattle.guide.proofs.Guide.{every-line-is-the-guides}
 use Rattle.guide.proofs.Checks.{check-5-is-the-guides, check-8-is-the-guides, check-9-is-the-guides}
 use Rattle.answers.specs.Answers.{verdictAnswer, headingAnswer, entryAnswer, poolAnswer}
@@ -50,9 +50,10 @@ use Rattle.answers.specs.declared.VerdictAnswer.{VerdictAnswer}
 use Rattle.answers.specs.declared.WrittenAnswer.{WrittenAnswer}
 use Rattle.answers.specs.declared.PoolAnswer.{PoolAnswer}
 use Rattle.demands.specs.Demand1.{OneOf, Gives, Answered, written, short, refused, onAStatement, onRewriting}
-use Rattle.demands.specs.Demand2.{NumbersAreTheGuides, guideStatement, numbered, front, StatementIsTheGuides, fieldsAt, LinesAreTheLineCalls, PoolCloses, EveryLineIsTheGuides}
+use Rattle.demands.specs.Demand2.{NumbersAreTheGuides, linesByTheGuide, guideHeading, guideStatement, accountsOfBoth, numbered, front, StatementIsTheGuides, fieldsAt, LinesAreTheLineCalls, PoolCloses, EveryLineIsTheGuides}
 use Rattle.demands.proofs.Numbers.{verdict-numbers}
 use Rattle.demands.proofs.Numbered.{line-numbered}
+use Rattle.demands.proofs.LockedBytes.{locked-bytes}
 use Rattle.demands.proofs.Demand1.{every-input-is-answered}
 
 -- ---- a call that is not refused
@@ -77,53 +78,58 @@ front-is xs l r x g = rw (g .answer, g .bytes) (put-there l 0 xs (omega (arith, 
 
 -- ---- the book
 
--- an accepted book passed checks 5, 8 and 9
-numbers-of : (b : List ℕ) → AreBytes b → verdict b ≡ Accepted → NumbersAreTheGuides b
+-- a sound book passed checks 5, 8 and 9
+numbers-of : (b : List ℕ) → AreBytes b → soundness b ≡ Accepted → NumbersAreTheGuides b
 unfolding check8 check9
 numbers-of b bytes v =
-    let c = records-passed b v in
+    let c = sound-passed b v .records in
     record {
       ranges = check-5-is-the-guides b bytes;
       factors = λ j l. check-8-is-the-guides b bytes (c .fields) j l .0 (first-each _ _ (record-held _ _ _ _ (c .factors)) j l);
       energies = λ g l. check-9-is-the-guides b bytes (c .fields) g l .0 (first-each _ _ (record-held _ _ _ _ (c .sums)) g l);
     }
 
-book-numbers : (b : List ℕ) → AreBytes b → (v : Verdict) → verdict b ≡ v → (r : VerdictAnswer) → r ≡ verdictAnswer v → r .refusal ≡ 0 → NumbersAreTheGuides b
+book-numbers : (b t : List ℕ) → AreBytes b → AreBytes t → (v : Verdict) → verdict b t ≡ v → (r : VerdictAnswer) → r ≡ verdictAnswer v → r .refusal ≡ 0 → NumbersAreTheGuides b × NumbersAreTheGuides (lockedFor b t)
 unfolding verdictAnswer has
-book-numbers b bytes Accepted v r a z = numbers-of b bytes v
-book-numbers b bytes (Refused k place) v r a z = never (rw (sym (ap (λ (w : VerdictAnswer). w .refusal) a) ∙ z) at (verdict-numbers b k place v))
+book-numbers b t bytes also Accepted v r a z =
+    let c = all-passed b t v in
+    (numbers-of b bytes (c .sound), numbers-of (lockedFor b t) (locked-bytes b t bytes also) (locked-passes b t (c .sound) (c .fits)))
+book-numbers b t bytes also (Refused k place) v r a z = never (rw (sym (ap (λ (w : VerdictAnswer). w .refusal) a) ∙ z) at (verdict-numbers b t k place v))
 
 -- ---- the statement
 
-module _ (b : List ℕ) (bytes : AreBytes b) (account : ℕ) (small : account < 2 ^ 32) where
+module _ (b t : List ℕ) (bytes : AreBytes b) (also : AreBytes t) (account : ℕ) (small : account < 2 ^ 32) where
+  lines-guides : verdict b t ≡ Accepted → linesFor (bookOf b) (bookOf (lockedFor b t)) account ≡ linesByTheGuide b t account
+  lines-guides v = every-line-is-the-guides b t bytes (locked-bytes b t bytes also) v account
+
   -- what the rules give is the guide's
-  guides : (xs : List ℕ) → outcome b account ≡ gives xs → xs ≡ guideStatement b account
+  guides : (xs : List ℕ) → outcome b t account ≡ gives xs → xs ≡ guideStatement b t account
   unfolding statementOf
   guides xs e =
-      let s = passed b account xs e in
+      let s = passed b t account xs e in
       s .bytes
-      ∙ ap (λ (ls : List Line). statementBytes (headingOf account (publicOf (bookOf b)) (length ls)) ls) (every-line-is-the-guides b bytes (s .book) account)
+      ∙ ap (λ (ls : List Line). statementBytes (headingOf account (publicOf (bookOf b)) (length ls)) ls) (lines-guides (s .book))
 
-  read : (xs : List ℕ) → outcome b account ≡ gives xs → ReadBack (publicOf (bookOf b)) (rowsOfAccount (bookOf b) account) account xs
-  read xs e = written-and-read b account xs bytes small e
+  read : (xs : List ℕ) → outcome b t account ≡ gives xs → ReadBack (publicOf (bookOf b)) (rowsOfAccount (bookOf b) account) (lockedOf (bookOf (lockedFor b t)) account) account xs
+  read xs e = written-and-read b t account xs bytes small e
 
-  heading-read : (xs : List ℕ) → outcome b account ≡ gives xs → headingRead xs ≡ heading.Heading (headingOf account (publicOf (bookOf b)) (length (guideLines b account)))
+  heading-read : (xs : List ℕ) → outcome b t account ≡ gives xs → headingRead xs ≡ heading.Heading (guideHeading b t account)
   unfolding headingRead
   heading-read xs e =
-      let s = passed b account xs e in
+      let s = passed b t account xs e in
       let back = read xs e in
-      rw (back .accepted) (ap heading.Heading (back .heading ∙ ap (λ (ls : List Line). headingOf account (publicOf (bookOf b)) (length ls)) (every-line-is-the-guides b bytes (s .book) account)))
+      rw (back .accepted) (ap heading.Heading (back .heading ∙ ap (λ (ls : List Line). headingOf account (publicOf (bookOf b)) (length ls)) (lines-guides (s .book))))
 
-  line-read : (xs : List ℕ) → outcome b account ≡ gives xs → (index : ℕ) → lineRead xs index ≡ numbered (guideLines b account) index
+  line-read : (xs : List ℕ) → outcome b t account ≡ gives xs → (index : ℕ) → lineRead xs index ≡ numbered (linesByTheGuide b t account) index
   unfolding lineRead
   line-read xs e index =
-      let s = passed b account xs e in
+      let s = passed b t account xs e in
       let back = read xs e in
       rw (back .accepted)
       (line-numbered xs (headingAt xs .lines) index
-      ∙ ap (λ (ls : List Line). numbered ls index) (back .lines ∙ every-line-is-the-guides b bytes (s .book) account))
+      ∙ ap (λ (ls : List Line). numbered ls index) (back .lines ∙ lines-guides (s .book)))
 
-  statement-is-the-guides : (l : List ℕ) (r : WrittenAnswer) (x : List ℕ) → Given (outcome b account) l r x → StatementIsTheGuides b account l r x
+  statement-is-the-guides : (l : List ℕ) (r : WrittenAnswer) (x : List ℕ) → Given (outcome b t account) l r x → StatementIsTheGuides b t account l r x
   statement-is-the-guides l r x g =
       let xs = g .bytes in
       let e = g .is in
@@ -136,26 +142,26 @@ module _ (b : List ℕ) (bytes : AreBytes b) (account : ℕ) (small : account < 
 
 -- ---- the balance
 
-module _ (b : List ℕ) (bytes : AreBytes b) (number : ℕ) where
-  pool-closes : (v : verdict b ≡ Accepted) (p : Pool) → poolAt (poolsIn (publicOf (bookOf b))) number ≡ found p → (r : PoolAnswer) → r ≡ poolAnswer (answerTo (bookOf b) (found p)) → PoolCloses b number r
+module _ (b t : List ℕ) (bytes : AreBytes b) (also : AreBytes t) (number : ℕ) where
+  pool-closes : (v : verdict b t ≡ Accepted) (p : Pool) → poolAt (poolsIn (publicOf (bookOf b))) number ≡ found p → (r : PoolAnswer) → r ≡ poolAnswer (answerTo (bookOf b) (bookOf (lockedFor b t)) (found p)) → PoolCloses b t number r
   unfolding poolAnswer answerTo balanceIn lineCount lineSum poolLines
   pool-closes v p e r a =
-      let guides = fun-ext (λ (account : ℕ). every-line-is-the-guides b bytes v account) in
+      let guides = fun-ext (λ (account : ℕ). every-line-is-the-guides b t bytes (locked-bytes b t bytes also) v account) in
       record {
         pool = p;
         there = e;
         amount = rw a refl;
-        everyone = each-account-stands-once (bookOf b);
-        lines = rw a (ap (λ (f : ℕ → List Line). sumOf (λ i. length (keep (inPool p) (f i))) (accountsOf (bookOf b))) guides);
-        sum = rw a (ap (λ (f : ℕ → List Line). sumZ (λ i. sumZ (λ (l : Line). l .amount) (keep (inPool p) (f i))) (accountsOf (bookOf b))) guides);
-        closes = rw a (every-pool-closes b v number p e);
+        everyone = each-account-stands-once (bookOf b) (bookOf (lockedFor b t));
+        lines = rw a (ap (λ (f : ℕ → List Line). sumOf (λ i. length (keep (inPool p) (f i))) (accountsOfBoth b t)) guides);
+        sum = rw a (ap (λ (f : ℕ → List Line). sumZ (λ i. sumZ (λ (l : Line). l .amount) (keep (inPool p) (f i))) (accountsOfBoth b t)) guides);
+        closes = rw a (every-pool-closes b t v number p e);
       }
 
-  balance-closes : (v : Verdict) → verdict b ≡ v → (f : Found) → poolAt (poolsIn (publicOf (bookOf b))) number ≡ f → (r : PoolAnswer) → r ≡ poolAnswer (balanceIf v (answerTo (bookOf b) f)) → r .refusal ≡ 0 → PoolCloses b number r
+  balance-closes : (v : Verdict) → verdict b t ≡ v → (f : Found) → poolAt (poolsIn (publicOf (bookOf b))) number ≡ f → (r : PoolAnswer) → r ≡ poolAnswer (balanceIf v (answerTo (bookOf b) (bookOf (lockedFor b t)) f)) → r .refusal ≡ 0 → PoolCloses b t number r
   unfolding balanceIf answerTo poolAnswer has
   balance-closes Accepted v past e r a z = absurd (omega (arith, sym (ap (λ (w : PoolAnswer). w .refusal) a) ∙ z))
   balance-closes Accepted v (found p) e r a z = pool-closes v p e r a
-  balance-closes (Refused k place) v f e r a z = never (rw (sym (ap (λ (w : PoolAnswer). w .refusal) a) ∙ z) at (verdict-numbers b k place v))
+  balance-closes (Refused k place) v f e r a z = never (rw (sym (ap (λ (w : PoolAnswer). w .refusal) a) ∙ z) at (verdict-numbers b t k place v))
 
 -- ---- read and written
 
@@ -222,10 +228,10 @@ pub every-line-and-pool-is-the-guides : EveryLineIsTheGuides
 unfolding balanceOf balancesIn has
 every-line-and-pool-is-the-guides =
     record {
-      check = λ b bytes r a z. book-numbers b bytes (verdict b) refl r a z;
-      statement = λ b bytes account small l r x c z.
-          statement-is-the-guides b bytes account small l r x (given onAStatement (outcome b account) l r x never (every-input-is-answered .statement b account l r x c) z);
-      balance = λ b bytes number r a z. balance-closes b bytes number (verdict b) refl (poolAt (poolsIn (publicOf (bookOf b))) number) refl r a z;
+      check = λ b t bytes also r a z. book-numbers b t bytes also (verdict b t) refl r a z;
+      statement = λ b t bytes also account small l r x c z.
+          statement-is-the-guides b t bytes also account small l r x (given onAStatement (outcome b t account) l r x never (every-input-is-answered .statement b t account l r x c) z);
+      balance = λ b t bytes also number r a z. balance-closes b t bytes also number (verdict b t) refl (poolAt (poolsIn (publicOf (bookOf b))) number) refl r a z;
       rewrite = λ s bytes l r x c z.
           let g = given onRewriting (rewritten s) l r x never (every-input-is-answered .rewrite s l r x c) z in
           rw (rewritten-is s bytes (g .bytes) (g .is)) at (g .gives-them);

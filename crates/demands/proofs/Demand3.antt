@@ -1,34 +1,69 @@
--- Demand 3: no neighbour's figure. A statement is made from the public part of a book and the account's own rows, so books that agree in these give the
--- same outcome, and the call's promise speaks of nothing else. Assumes nothing.
+-- Demand 3: no neighbour's figure. A statement is made from the public part of a book, the account's own rows and, where the locked book is read, its
+-- region totals and the account's own rows there: so books that agree in these give the same outcome, and the call's promise speaks of nothing else.
+-- Assumes nothing.
 use Prim.Native.Nat.{ℕ}
 use mathlib.Core.Path.{_≡_, refl, sym, ap, _∙_}
+use mathlib.Core.Bool.{Bool, true, false, cond, not}
 use mathlib.Core.List.{List, [], _∷_, map}
 use Rattle.ground.specs.Inner.Each.{Each}
 use Rattle.sections.proofs.Cases.{zero-one}
 use Rattle.dispatch.specs.declared.Cost.the-variants.{Amount}
 use Rattle.records.specs.declared.rows.Constraint.{Constraint}
+use Rattle.locking.specs.Locking.{isTest, readsLocked}
+use Rattle.book.specs.Header.{headerOf}
 use Rattle.book.specs.Book.{bookOf}
-use Rattle.accounts.specs.Account.{Public, publicOf}
+use Rattle.book.specs.Table.{lockedFor}
+use Rattle.accounts.specs.Rows.{keep, none}
+use Rattle.accounts.specs.Account.{Public, publicOf, rowsOfAccount, lockedOf}
+use Rattle.accounts.proofs.Lists.{some-rows}
 use Rattle.settlement.specs.Settle.{outcome}
 use Rattle.answers.specs.declared.WrittenAnswer.{WrittenAnswer}
 use Rattle.demands.specs.Demand1.{LengthCall}
-use Rattle.demands.specs.Demand3.{Agree, NoNeighboursFigure, costless, costlessPublic, AgreeButForCosts, costsIn, Way, asPayment, asBaseCost, madeFrom, CostsArePublic}
+use Rattle.demands.specs.Demand3.{LockedAgree, Agree, NoNeighboursFigure, costless, costlessPublic, AgreeButForCosts, costsIn, Way, asPayment, asBaseCost, madeFrom, CostsArePublic}
+
+-- ---- the locked books
+
+module _ (b t c u : List ℕ) (account : ℕ) (public : publicOf (bookOf b) ≡ publicOf (bookOf c)) (own : rowsOfAccount (bookOf b) account ≡ rowsOfAccount (bookOf c) account) where
+  abbrev reads : List ℕ → Bool
+  reads x = readsLocked (bookOf x .contract) (headerOf x .contracts)
+
+  -- whether one is read is seen from the contracts
+  reads-by : (x : List ℕ) → reads x ≡ not (none (keep isTest (publicOf (bookOf x) .contracts)))
+  unfolding readsLocked publicOf
+  reads-by x = some-rows (bookOf x .contract) isTest (headerOf x .contracts)
+
+  both-read : reads b ≡ reads c
+  both-read = reads-by b ∙ ap (λ (p : Public). not (none (keep isTest (p .contracts)))) public ∙ sym (reads-by c)
+
+  -- a book's own, put as those of a locked one
+  alone : lockedOf (bookOf b) account ≡ lockedOf (bookOf c) account
+  unfolding lockedOf publicOf
+  alone = λ j. record { entries = public j .entries; rows = own j }
+
+  -- so where it is, the parts that must agree are those of the locked books, and where it is not, they are those of the books
+  same-locked : LockedAgree b t u account → lockedOf (bookOf (lockedFor b t)) account ≡ lockedOf (bookOf (lockedFor c u)) account
+  unfolding lockedFor
+  same-locked h = rw (← both-read) (by (reads b) refl)
+    where
+      by : (x : Bool) → reads b ≡ x → lockedOf (bookOf (cond x t b)) account ≡ lockedOf (bookOf (cond x u c)) account
+      by true e = h .read e
+      by false e = alone
 
 -- the outcome of one account is the same in both books
-same-outcome : (b c : List ℕ) (account : ℕ) → Agree b c account → outcome b account ≡ outcome c account
+same-outcome : (b t c u : List ℕ) (account : ℕ) → Agree b t c u account → outcome b t account ≡ outcome c u account
 unfolding outcome
-same-outcome b c account h = rw (h .first, h .second, h .public, h .own)
+same-outcome b t c u account h = rw (h .first, h .second, h .public, h .own, same-locked b t c u account (h .public) (h .own) (h .locked))
 
-same-length : (b c : List ℕ) (account : ℕ) (r s : WrittenAnswer) → Agree b c account → LengthCall b account r → LengthCall c account s → r ≡ s
-same-length b c account r s h p q = p ∙ rw (same-outcome b c account h) (sym q)
+same-length : (b t c u : List ℕ) (account : ℕ) (r s : WrittenAnswer) → Agree b t c u account → LengthCall b t account r → LengthCall c u account s → r ≡ s
+same-length b t c u account r s h p q = p ∙ rw (same-outcome b t c u account h) (sym q)
 
 pub no-neighbours-figure : NoNeighboursFigure
 no-neighbours-figure =
     record {
-      same = λ b c account l r s x y h p q.
-          let e = same-outcome b c account h in
+      same = λ b t c u account l r s x y h p q.
+          let e = same-outcome b t c u account h in
           record { answer = p .answer ∙ rw e (sym (q .answer)); bytes = p .left ∙ rw e (sym (q .left)) };
-      length = λ b c account r s h p q. same-length b c account r s h p q;
+      length = λ b t c u account r s h p q. same-length b t c u account r s h p q;
     }
 
 -- ---- costs
@@ -90,15 +125,15 @@ public-agrees p q e d =
     let constraints = same-constraints (p .constraints) (q .constraints) (ap (λ (r : Public). r .constraints) e) d in
     λ j. record { date = e j .date; interval = e j .interval; run = e j .run; entries = e j .entries; constraints = constraints j; contracts = e j .contracts }
 
-agrees : (b c : List ℕ) (account : ℕ) → AgreeButForCosts b c account → costsIn b ≡ costsIn c → Agree b c account
-agrees b c account h e =
-    record { first = h .first; second = h .second; public = public-agrees (publicOf (bookOf b)) (publicOf (bookOf c)) (h .public) e; own = h .ownRows }
+agrees : (b t c u : List ℕ) (account : ℕ) → AgreeButForCosts b t c u account → costsIn b ≡ costsIn c → Agree b t c u account
+agrees b t c u account h e =
+    record { first = h .first; second = h .second; public = public-agrees (publicOf (bookOf b)) (publicOf (bookOf c)) (h .public) e; own = h .ownRows; locked = h .lockedParts }
 
 pub costs-are-public : CostsArePublic
 costs-are-public =
     record {
-      field = λ b c account l r s x y h e. no-neighbours-figure .same b c account l r s x y (agrees b c account h e);
-      made = λ rows way b c account l r s x y h p q.
-          let e = same-costs rows way (publicOf (bookOf b) .constraints) (publicOf (bookOf c) .constraints) (ap (λ (u : Public). u .constraints) (h .public)) p q in
-          no-neighbours-figure .same b c account l r s x y (agrees b c account h e);
+      field = λ b t c u account l r s x y h e. no-neighbours-figure .same b t c u account l r s x y (agrees b t c u account h e);
+      made = λ rows way b t c u account l r s x y h p q.
+          let e = same-costs rows way (publicOf (bookOf b) .constraints) (publicOf (bookOf c) .constraints) (ap (λ (v : Public). v .constraints) (h .public)) p q in
+          no-neighbours-figure .same b t c u account l r s x y (agrees b t c u account h e);
     }

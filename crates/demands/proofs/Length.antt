@@ -10,9 +10,10 @@ use lib.ListN.{length}
 use Rattle.ground.specs.Bytes.{AreBytes}
 use Rattle.ground.specs.Put.{put}
 use Rattle.sections.proofs.Cases.{no-yes}
-use Rattle.accounts.specs.Account.{publicOf, rowsOfAccount}
+use Rattle.accounts.specs.Account.{publicOf, rowsOfAccount, lockedOf}
 use Rattle.sharing.specs.Once.{has}
 use Rattle.book.specs.Book.{bookOf}
+use Rattle.book.specs.Table.{lockedFor}
 use Rattle.statement.specs.Lent.{Outcome, refuses, gives, lengthFor, answerFor, leftIn}
 use Rattle.statement.specs.declared.Written.the-variants as written
 use Rattle.statement.specs.declared.Line.{Line}
@@ -24,6 +25,7 @@ use Rattle.answers.specs.Answers.{writtenAnswer, Called}
 use Rattle.answers.specs.declared.WrittenAnswer.{WrittenAnswer}
 use Rattle.demands.specs.Length.{AskedFirst, AsLongAsTheGuides, LengthIsTheStatements}
 use Rattle.demands.proofs.Numbers.{outcome-numbers}
+use Rattle.demands.proofs.LockedBytes.{locked-bytes}
 
 -- ---- the two calls beside each other; o is what the rules fix for the input
 
@@ -59,19 +61,19 @@ asked-first (gives xs) l r s x a c = by (leb (length xs) (length l)) refl (c .an
 
 -- ---- how long it is
 
-long : (b : List ℕ) → AreBytes b → (account : ℕ) (o : Outcome) → outcome b account ≡ o → (r : WrittenAnswer) → r ≡ writtenAnswer (lengthFor o) → r .refusal ≡ 0 → AsLongAsTheGuides b account r
+long : (b t : List ℕ) → AreBytes b → AreBytes t → (account : ℕ) (o : Outcome) → outcome b t account ≡ o → (r : WrittenAnswer) → r ≡ writtenAnswer (lengthFor o) → r .refusal ≡ 0 → AsLongAsTheGuides b t account r
 unfolding lengthFor writtenAnswer has
-long b bytes account (refuses number place) e r a z = absurd (no-yes refl (rw (sym (ap (λ (w : WrittenAnswer). w .refusal) a) ∙ z) at (outcome-numbers b account number place e)))
-long b bytes account (gives xs) e r a z =
-    let s = passed b account xs e in
+long b t bytes also account (refuses number place) e r a z = absurd (no-yes refl (rw (sym (ap (λ (w : WrittenAnswer). w .refusal) a) ∙ z) at (outcome-numbers b t account number place e)))
+long b t bytes also account (gives xs) e r a z =
+    let s = passed b t account xs e in
     ap (λ (w : WrittenAnswer). w .length) a
     ∙ ap length (s .bytes)
-    ∙ statement-long account (publicOf (bookOf b)) (rowsOfAccount (bookOf b) account)
-    ∙ ap (λ (ls : List Line). 24 + 24 * length ls) (every-line-is-the-guides b bytes (s .book) account)
+    ∙ statement-long account (publicOf (bookOf b)) (rowsOfAccount (bookOf b) account) (lockedOf (bookOf (lockedFor b t)) account)
+    ∙ ap (λ (ls : List Line). 24 + 24 * length ls) (every-line-is-the-guides b t bytes (locked-bytes b t bytes also) (s .book) account)
 
 pub length-is-the-statements : LengthIsTheStatements
 length-is-the-statements =
     record {
-      calls = λ b account l r s x p q. asked-first (outcome b account) l r s x p q;
-      lines = λ b bytes account r p. long b bytes account (outcome b account) refl r p;
+      calls = λ b t account l r s x p q. asked-first (outcome b t account) l r s x p q;
+      lines = λ b t bytes also account r p. long b t bytes also account (outcome b t account) refl r p;
     }

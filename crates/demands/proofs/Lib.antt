@@ -1,8 +1,10 @@
 pub mod Numbers
 pub mod Demand1
 pub mod Numbered
+pub mod LockedBytes
 pub mod Demand2
 pub mod Demand3
+pub mod Unread
 pub mod Length
 pub mod Example
 pub mod Strength

@@ -13,14 +13,14 @@ use Rattle.sections.specs.declared.Verdict.the-variants.{Accepted, Refused}
 use Rattle.sections.proofs.Cases.{zero-one}
 use Rattle.dispatch.specs.Dispatch.{rowsVerdict}
 use Rattle.book.specs.Book.{bookOf}
-use Rattle.book.specs.Table.{soundness, verdict, check1, check2, check3, check4, check5, check6, check7, check8, check9, check10}
-use Rattle.accounts.specs.Account.{publicOf, rowsOfAccount, unknown}
+use Rattle.book.specs.Table.{soundness, lockedFor, verdict, check1, check2, check3, check4, check5, check6, check7, check8, check9, check17, check18, check10}
+use Rattle.accounts.specs.Account.{rowsOfAccount, lockedOf, unnamed}
 use Rattle.sharing.specs.Once.{has}
 use Rattle.statement.specs.Lent.{Outcome, refuses, gives}
 use Rattle.lines.specs.Limit.{anyOver}
 use Rattle.parsing.specs.Parsing.{isStatement}
 use Rattle.reading.specs.Calls.{ifStatement}
-use Rattle.settlement.specs.Settle.{linesOf, settled, outcomeIf, outcome}
+use Rattle.settlement.specs.Settle.{settled, linesFor, outcomeIf, outcome}
 use Rattle.demands.specs.Demand1.{onABook, onALength, onAStatement, onRewriting, onDispatchRows, OneOf}
 
 -- a verdict, and an outcome, that refuses only by one of the numbers
@@ -89,11 +89,20 @@ sound-numbers b =
       ),
     )
 
--- and 10
-pub verdict-numbers : (b : List ℕ) → Among onABook (verdict b)
-unfolding verdict check10 has
-verdict-numbers b =
-    among-first onABook _ (sound-numbers b, (among-first onABook _ (among-record onABook 10 _ _ _ refl, (among-record onABook 10 _ _ _ refl, tt)), tt))
+-- 17, 18 and 10
+pub verdict-numbers : (b t : List ℕ) → Among onABook (verdict b t)
+unfolding verdict check17 check18 check10 has
+verdict-numbers b t =
+    among-first onABook _ (
+      sound-numbers b,
+      (
+        among-record onABook 17 _ _ _ refl,
+        (
+          among-record onABook 18 _ _ _ refl,
+          (among-first onABook _ (among-record onABook 10 _ _ _ refl, (among-record onABook 10 _ _ _ refl, tt)), tt),
+        ),
+      ),
+    )
 
 -- 16
 pub rows-numbers : (s : List ℕ) → Among onDispatchRows (rowsVerdict s)
@@ -112,7 +121,7 @@ within-cond : (numbers : List ℕ) (t : Bool) (k : ℕ) (o : Outcome) → OneOf 
 within-cond numbers true k o h w = within-one numbers k 0 h
 within-cond numbers false k o h w = w
 
--- a number of the first ten is one of a length's, and one of a length's is one of a statement's
+-- a number of any call on a book is one of a length's, and one of a length's is one of a statement's
 more : (n : ℕ) → OneOf onABook n → OneOf onALength n
 unfolding has
 more n h = or-true (eqb 11 n) _ (or-true (eqb 12 n) _ h)
@@ -122,13 +131,14 @@ unfolding outcomeIf
 within-verdict Accepted o h w = w
 within-verdict (Refused k at₀) o h w = within-one onALength k at₀ (more k (h k at₀ refl))
 
--- 1 to 10, then 11, 12
-pub outcome-numbers : (b : List ℕ) (account : ℕ) → Within onALength (outcome b account)
+-- those of any call on a book, then 11, 12
+pub outcome-numbers : (b t : List ℕ) (account : ℕ) → Within onALength (outcome b t account)
 unfolding outcome settled has
-outcome-numbers b account =
-    within-verdict (verdict b) _ (verdict-numbers b)
-    (within-cond onALength (unknown (rowsOfAccount (bookOf b) account)) 11 _ refl
-    (within-cond onALength (anyOver (linesOf (publicOf (bookOf b)) (rowsOfAccount (bookOf b) account))) 12 _ refl (within-gives onALength _)))
+outcome-numbers b t account =
+    let L = bookOf (lockedFor b t) in
+    within-verdict (verdict b t) _ (verdict-numbers b t)
+    (within-cond onALength (unnamed (rowsOfAccount (bookOf b) account) (lockedOf L account)) 11 _ refl
+    (within-cond onALength (anyOver (linesFor (bookOf b) L account)) 12 _ refl (within-gives onALength _)))
 
 also-13 : (n : ℕ) → OneOf onALength n → OneOf onAStatement n
 unfolding has
@@ -139,8 +149,8 @@ also-13 n h = by (eqb 11 n) (eqb 12 n) (eqb 13 n) _ h
     by false true c d e = refl
     by false false c d e = or-true c d e
 
-pub statement-call-numbers : (b : List ℕ) (account : ℕ) → Within onAStatement (outcome b account)
-statement-call-numbers b account number place e = also-13 number (outcome-numbers b account number place e)
+pub statement-call-numbers : (b t : List ℕ) (account : ℕ) → Within onAStatement (outcome b t account)
+statement-call-numbers b t account number place e = also-13 number (outcome-numbers b t account number place e)
 
 -- 14
 pub statement-numbers : (s xs : List ℕ) → Within onRewriting (ifStatement s xs)

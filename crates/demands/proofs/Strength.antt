@@ -1,7 +1,7 @@
 -- What the demands come to, said once more and without their definitions, so that a demand that says less is refused here. Assumes nothing.
 use Prim.Native.Nat.{ℕ, _+_, _*_, _≤_, _<_}
-use mathlib.Core.Path.{_≡_, refl, ap, _∙_}
-use mathlib.Core.Logic.{inl, inr}
+use mathlib.Core.Path.{_≡_, refl, sym, ap, _∙_}
+use mathlib.Core.Logic.{_⊎_, inl, inr}
 use mathlib.Core.Bool.{Bool, true, false, _||_}
 use mathlib.Core.List.{List, [], _∷_}
 use native.Mathlib.Omega.{arith}
@@ -13,26 +13,30 @@ use Rattle.sections.specs.declared.Verdict.the-variants.{Accepted}
 use Rattle.sections.proofs.Cases.{zero-one}
 use Rattle.ground.specs.Bytes.{AreBytes, i64At}
 use Rattle.ground.specs.Inner.Each.{Each}
+use Rattle.locking.specs.Locking.{readsLocked}
+use Rattle.book.specs.Header.{headerOf}
 use Rattle.book.specs.Book.{bookOf}
-use Rattle.book.specs.Table.{verdict}
+use Rattle.book.specs.Table.{lockedFor, verdict}
 use Rattle.accounts.specs.Account.{publicOf, rowsOfAccount}
 use Rattle.sharing.specs.Once.{has}
 use Rattle.statement.specs.Lent.{Outcome, lengthFor}
 use Rattle.reading.specs.Calls.{headingRead, lineRead}
 use Rattle.settlement.specs.Settle.{outcome}
 use Rattle.guide.specs.Guide.{guideLines}
-use Rattle.answers.specs.Answers.{writtenAnswer, headingAnswer, entryAnswer, Called}
+use Rattle.balance.specs.Balance.{balanceOf}
+use Rattle.answers.specs.Answers.{verdictAnswer, writtenAnswer, headingAnswer, entryAnswer, poolAnswer, Called}
 use Rattle.answers.specs.declared.WrittenAnswer.{WrittenAnswer}
 use Rattle.answers.specs.declared.EntryAnswer.{EntryAnswer}
 use Rattle.answers.specs.declared.PoolAnswer.{PoolAnswer}
 use Rattle.answers.specs.declared.CostAnswer.{CostAnswer}
 use Rattle.demands.specs.Demand1.{onABook, onALength, onDispatchRows, OneOf, Answered, written, short, refused, LengthAnswered, CostAnswered}
 use Rattle.demands.specs.Demand2.{front, LinesAreTheLineCalls, PoolCloses}
-use Rattle.demands.specs.Demand3.{costlessPublic, Way, CostsMade}
+use Rattle.demands.specs.Demand3.{LockedAgree, costlessPublic, Way, CostsMade}
 use Rattle.demands.specs.Length.{AskedFirst}
 use Rattle.demands.proofs.Length.{length-is-the-statements}
 use Rattle.demands.proofs.Demand3.{no-neighbours-figure, costs-are-public}
-use Rattle.demands.proofs.Example.{bookA, bookB, two-books-agree}
+use Rattle.demands.proofs.Unread.{locked-only-where-read}
+use Rattle.demands.proofs.Example.{bookA, lockedA, bookB, lockedB, two-pairs-agree}
 
 -- ---- demand 1
 
@@ -50,35 +54,33 @@ unfolding has
 one-of P [] h n e = absurd (zero-one cc)
 one-of P (x ∷ l) h n e = one-more P x l (h .0) (one-of P l (h .1)) n e
 
--- a call refuses by the numbers of its table and no others: 0 is none of them, a check gives 1 to 10, a statement 1 to 13, a balance 15 besides
+-- a call refuses by the numbers of its table and no others: 0 is none of them, a check gives 1 to 10 and 17 and 18, a length 11 and 12 besides
 abbrev From1To : ℕ → ℕ → Type 0
-From1To last n = (1 ≤ n) × (n ≤ last)
+From1To last n = ((1 ≤ n) × (n ≤ last)) ⊎ ((n ≡ 17) ⊎ (n ≡ 18))
+
+-- a number of the table
+listed : {last n : ℕ} → 1 ≤ n → n ≤ last → From1To last n
+listed a b = inl (a, b)
 
 pub book-numbers : (n : ℕ) → OneOf onABook n → From1To 10 n
 book-numbers =
     one-of (From1To 10) onABook (
-      (omega arith, omega arith),
+      listed (omega arith) (omega arith),
       (
-        (omega arith, omega arith),
+        listed (omega arith) (omega arith),
         (
-          (omega arith, omega arith),
+          listed (omega arith) (omega arith),
           (
-            (omega arith, omega arith),
+            listed (omega arith) (omega arith),
             (
-              (omega arith, omega arith),
+              listed (omega arith) (omega arith),
               (
-                (omega arith, omega arith),
+                listed (omega arith) (omega arith),
                 (
-                  (omega arith, omega arith),
+                  listed (omega arith) (omega arith),
                   (
-                    (omega arith, omega arith),
-                    (
-                      (omega arith, omega arith),
-                      (
-                        (omega arith, omega arith),
-                        tt,
-                      ),
-                    ),
+                    listed (omega arith) (omega arith),
+                    (listed (omega arith) (omega arith), (inr (inl refl), (inr (inr refl), (listed (omega arith) (omega arith), tt)))),
                   ),
                 ),
               ),
@@ -88,11 +90,15 @@ book-numbers =
       ),
     )
 
--- a length is refused by 1 to 12, and then none is told
+-- a length is refused by 1 to 12, 17 and 18, and then none is told
 pub length-numbers : (n : ℕ) → OneOf onALength n → From1To 12 n
 length-numbers =
-    one-more (From1To 12) 11 _ (omega arith, omega arith)
-    (one-more (From1To 12) 12 _ (omega arith, omega arith) (λ n h. let b = book-numbers n h in (b .0, omega (arith, b .1))))
+    one-more (From1To 12) 11 _ (listed (omega arith) (omega arith))
+    (one-more (From1To 12) 12 _ (listed (omega arith) (omega arith)) (λ n h. wider n (book-numbers n h)))
+  where
+    wider : (n : ℕ) → From1To 10 n → From1To 12 n
+    wider n (inl h) = inl (h .0, omega (arith, h .1))
+    wider n (inr h) = inr h
 
 pub refused-without-length : (r : WrittenAnswer) → LengthAnswered r → (r .refusal ≡ 0 → ⊥) → From1To 12 (r .refusal) × (r .length ≡ 0)
 refused-without-length r (inl h) z = absurd (z (h .0))
@@ -114,9 +120,9 @@ refused-without-amount r (inr h) z = (rows-number (r .refusal) (h .0), ap (λ (a
 
 -- ---- the length, asked for before writing
 
-module _ (b : List ℕ) (account : ℕ) (l : List ℕ) (r s : WrittenAnswer) (x : List ℕ) (p : r ≡ writtenAnswer (lengthFor (outcome b account))) (q : Called (outcome b account) l s x) where
+module _ (b t : List ℕ) (account : ℕ) (l : List ℕ) (r s : WrittenAnswer) (x : List ℕ) (p : r ≡ writtenAnswer (lengthFor (outcome b t account))) (q : Called (outcome b t account) l s x) where
   asked : AskedFirst l r s x
-  asked = length-is-the-statements .calls b account l r s x p q
+  asked = length-is-the-statements .calls b t account l r s x p q
 
   pub length-is-of-what-is-written : s .refusal ≡ 0 → r .length ≡ s .length
   length-is-of-what-is-written z = ap (λ (w : WrittenAnswer). w .length) (asked .same z)
@@ -139,14 +145,14 @@ module _ (b : List ℕ) (account : ℕ) (l : List ℕ) (r s : WrittenAnswer) (x 
   same-number-and-place-back z k = asked .back z k
 
 -- 24 bytes, and 24 for each line that the guide gives the account
-pub length-by-the-guide : (b : List ℕ) → AreBytes b → (account : ℕ) (r : WrittenAnswer) → r ≡ writtenAnswer (lengthFor (outcome b account)) → r .refusal ≡ 0 → r .length ≡ 24 + 24 * length (guideLines b account)
-length-by-the-guide b bytes account r p z = length-is-the-statements .lines b bytes account r p z
+pub length-by-the-guide : (b t : List ℕ) → AreBytes b → AreBytes t → (account : ℕ) (r : WrittenAnswer) → r ≡ writtenAnswer (lengthFor (outcome b t account)) → r .refusal ≡ 0 → r .length ≡ 24 + 24 * length (guideLines b (lockedFor b t) account)
+length-by-the-guide b t bytes also account r p z = length-is-the-statements .lines b t bytes also account r p z
 
 -- ---- demand 2
 
 -- so many half units and no more
-pub within-half-units : (b : List ℕ) (number : ℕ) (r : PoolAnswer) (c : PoolCloses b number r) → 2 * natAbs (r .amount +ℤ r .sum) ≤ r .lines + c .pool .stages
-within-half-units b number r c = c .closes
+pub within-half-units : (b t : List ℕ) (number : ℕ) (r : PoolAnswer) (c : PoolCloses b t number r) → 2 * natAbs (r .amount +ℤ r .sum) ≤ r .lines + c .pool .stages
+within-half-units b t number r c = c .closes
 
 -- every amount that is handed out is the one that the line call answers
 pub each-amount : (s : List ℕ) (r : WrittenAnswer) (x : List ℕ) → LinesAreTheLineCalls s r x → (i : ℕ) → i < headingAnswer (headingRead s) .lines → i64At (front r x) (i * 40 + 32) ≡ entryAnswer (lineRead s i) .amount
@@ -154,16 +160,32 @@ each-amount s r x c i h = ap (λ (e : EntryAnswer). e .amount) (c .lines i h)
 
 -- ---- demand 3
 
--- the two books of the example
-pub the-example : (l : List ℕ) (r s : WrittenAnswer) (x y : List ℕ) → Called (outcome bookA 7) l r x → Called (outcome bookB 7) l s y → (r ≡ s) × (x ≡ y)
-the-example l r s x y p q = let same = no-neighbours-figure .same bookA bookB 7 l r s x y two-books-agree p q in (same .answer, same .bytes)
+-- the two pairs of books of the example
+pub the-example : (l : List ℕ) (r s : WrittenAnswer) (x y : List ℕ) → Called (outcome bookA lockedA 7) l r x → Called (outcome bookB lockedB 7) l s y → (r ≡ s) × (x ≡ y)
+the-example l r s x y p q = let same = no-neighbours-figure .same bookA lockedA bookB lockedB 7 l r s x y two-pairs-agree p q in (same .answer, same .bytes)
 
 -- and their lengths
-pub the-example-s-lengths : (r s : WrittenAnswer) → r ≡ writtenAnswer (lengthFor (outcome bookA 7)) → s ≡ writtenAnswer (lengthFor (outcome bookB 7)) → r ≡ s
-the-example-s-lengths r s p q = no-neighbours-figure .length bookA bookB 7 r s two-books-agree p q
+pub the-example-s-lengths : (r s : WrittenAnswer) → r ≡ writtenAnswer (lengthFor (outcome bookA lockedA 7)) → s ≡ writtenAnswer (lengthFor (outcome bookB lockedB 7)) → r ≡ s
+the-example-s-lengths r s p q = no-neighbours-figure .length bookA lockedA bookB lockedB 7 r s two-pairs-agree p q
 
--- books that agree in all but their costs, and have these from the same dispatch rows
-pub costs-from-rows : (rows : List ℕ) (way : ℕ → Way) (b c : List ℕ) (account : ℕ) (l : List ℕ) (r s : WrittenAnswer) (x y : List ℕ) → verdict b ≡ Accepted → verdict c ≡ Accepted → costlessPublic (publicOf (bookOf b)) ≡ costlessPublic (publicOf (bookOf c)) → rowsOfAccount (bookOf b) account ≡ rowsOfAccount (bookOf c) account → CostsMade rows way b → CostsMade rows way c → Called (outcome b account) l r x → Called (outcome c account) l s y → (r ≡ s) × (x ≡ y)
-costs-from-rows rows way b c account l r s x y first second public own made also p q =
-    let same = costs-are-public .made rows way b c account l r s x y (record { first = first; second = second; public = public; ownRows = own }) made also p q in
+-- books that agree in all but their costs, and have these from the same dispatch rows; without a contract of kind 2, whatever is lent as the locked book
+pub costs-from-rows : (rows : List ℕ) (way : ℕ → Way) (b t c u : List ℕ) (account : ℕ) (l : List ℕ) (r s : WrittenAnswer) (x y : List ℕ) → verdict b t ≡ Accepted → verdict c u ≡ Accepted → costlessPublic (publicOf (bookOf b)) ≡ costlessPublic (publicOf (bookOf c)) → rowsOfAccount (bookOf b) account ≡ rowsOfAccount (bookOf c) account → readsLocked (bookOf b .contract) (headerOf b .contracts) ≡ false → CostsMade rows way b → CostsMade rows way c → Called (outcome b t account) l r x → Called (outcome c u account) l s y → (r ≡ s) × (x ≡ y)
+costs-from-rows rows way b t c u account l r s x y first second public own none made also p q =
+    let unread : LockedAgree b t u account = record { read = λ e. absurd (zero-one (cc (sym none ∙ e))) } in
+    let same = costs-are-public .made rows way b t c u account l r s x y (record { first = first; second = second; public = public; ownRows = own; lockedParts = unread }) made also p q in
     (same .answer, same .bytes)
+
+-- ---- a locked book that is not read: whatever is lent, each call answers the same, and the statement call leaves the same
+
+module _ (b t u : List ℕ) (none : readsLocked (bookOf b .contract) (headerOf b .contracts) ≡ false) where
+  pub check-without-tests : verdictAnswer (verdict b t) ≡ verdictAnswer (verdict b u)
+  check-without-tests = locked-only-where-read .check b t u none _ _ refl refl
+
+  pub length-without-tests : (account : ℕ) → writtenAnswer (lengthFor (outcome b t account)) ≡ writtenAnswer (lengthFor (outcome b u account))
+  length-without-tests account = locked-only-where-read .length b t u none account _ _ refl refl
+
+  pub statement-without-tests : (account : ℕ) (l : List ℕ) (r s : WrittenAnswer) (x y : List ℕ) → Called (outcome b t account) l r x → Called (outcome b u account) l s y → (r ≡ s) × (x ≡ y)
+  statement-without-tests account l r s x y p q = let same = locked-only-where-read .statement b t u none account l r s x y p q in (same .answer, same .bytes)
+
+  pub balance-without-tests : (number : ℕ) → poolAnswer (balanceOf b t number) ≡ poolAnswer (balanceOf b u number)
+  balance-without-tests number = locked-only-where-read .balance b t u none number _ _ refl refl

@@ -29,15 +29,15 @@ use Rattle.answers.specs.declared.CostAnswer.{CostAnswer}
 
 -- ---- the numbers of 01's table that each call can give
 
--- "Numbers 1 to 10 come from every call on a book."
+-- "Numbers 1 to 10 come from every call on a book." 02, Req 04: "Refusals: after 9 and before 10, 17 .., then 18"
 abbrev pub onABook : List ℕ
-onABook = 1 ∷ 2 ∷ 3 ∷ 4 ∷ 5 ∷ 6 ∷ 7 ∷ 8 ∷ 9 ∷ 10 ∷ []
+onABook = 1 ∷ 2 ∷ 3 ∷ 4 ∷ 5 ∷ 6 ∷ 7 ∷ 8 ∷ 9 ∷ 17 ∷ 18 ∷ 10 ∷ []
 
 -- "A statement then looks for 11, 12, 13, a balance for 15."
 abbrev pub onAStatement : List ℕ
 onAStatement = 11 ∷ 12 ∷ 13 ∷ onABook
 
--- 02, Req 02: "the first gives 1 to 12, the second 1 to 13"
+-- 02, Req 02: "the first gives 1 to 12, the second 1 to 13", and both 17 and 18 since request 04
 abbrev pub onALength : List ℕ
 onALength = 11 ∷ 12 ∷ onABook
 
@@ -83,10 +83,10 @@ pub data Answered (numbers : List ℕ) (o : Outcome) (l : List ℕ) (r : Written
 
 -- ---- a call that only answers: refusal 0, or a number of the table and any other number but the place 0
 
-abbrev pub CheckAnswered : List ℕ → VerdictAnswer → Type 0
-CheckAnswered b r =
-    ((verdict b ≡ Accepted) × (r ≡ record { refusal = 0; place = 0 }))
-    ⊎ ((verdict b ≡ Refused (r .refusal) (r .place)) × OneOf onABook (r .refusal))
+abbrev pub CheckAnswered : List ℕ → List ℕ → VerdictAnswer → Type 0
+CheckAnswered b locked r =
+    ((verdict b locked ≡ Accepted) × (r ≡ record { refusal = 0; place = 0 }))
+    ⊎ ((verdict b locked ≡ Refused (r .refusal) (r .place)) × OneOf onABook (r .refusal))
 
 abbrev pub LengthAnswered : WrittenAnswer → Type 0
 LengthAnswered r =
@@ -115,13 +115,13 @@ CostAnswered r =
 
 -- ---- what the writing calls promise, and the one that is asked before
 
--- the length call on book b: r is what it answers
-abbrev pub LengthCall : List ℕ → ℕ → WrittenAnswer → Type 0
-LengthCall b account r = r ≡ writtenAnswer (lengthFor (outcome b account))
+-- the length call on book b, with these bytes lent as the locked book: r is what it answers
+abbrev pub LengthCall : List ℕ → List ℕ → ℕ → WrittenAnswer → Type 0
+LengthCall b locked account r = r ≡ writtenAnswer (lengthFor (outcome b locked account))
 
--- the statement call on book b, with a buffer that held l: r is what it answers, x what the buffer holds then
-abbrev pub StatementCall : List ℕ → ℕ → List ℕ → WrittenAnswer → List ℕ → Type 0
-StatementCall b account l r x = Called (outcome b account) l r x
+-- the statement call likewise, with a buffer that held l: r is what it answers, x what the buffer holds then
+abbrev pub StatementCall : List ℕ → List ℕ → ℕ → List ℕ → WrittenAnswer → List ℕ → Type 0
+StatementCall b locked account l r x = Called (outcome b locked account) l r x
 
 -- the rewriting call on the bytes s, likewise
 abbrev pub RewriteCall : List ℕ → List ℕ → WrittenAnswer → List ℕ → Type 0
@@ -134,11 +134,12 @@ LinesCall s l r x = Called (unpacked s) l r x
 -- ---- the demand, of what each call of the library promises, for every input
 
 pub record EveryInputIsAnswered : Type 0 where
-  pub check : (b : List ℕ) (r : VerdictAnswer) → r ≡ verdictAnswer (verdict b) → CheckAnswered b r
-  pub statement : (b : List ℕ) (account : ℕ) (l : List ℕ) (r : WrittenAnswer) (x : List ℕ) → StatementCall b account l r x
-      → Answered onAStatement (outcome b account) l r x
-  pub length : (b : List ℕ) (account : ℕ) (r : WrittenAnswer) → LengthCall b account r → LengthAnswered r
-  pub balance : (b : List ℕ) (number : ℕ) (r : PoolAnswer) → r ≡ poolAnswer (balanceOf b number) → PoolAnswered r
+  -- each call on a book takes a locked book besides, of any bytes too
+  pub check : (b locked : List ℕ) (r : VerdictAnswer) → r ≡ verdictAnswer (verdict b locked) → CheckAnswered b locked r
+  pub statement : (b locked : List ℕ) (account : ℕ) (l : List ℕ) (r : WrittenAnswer) (x : List ℕ) → StatementCall b locked account l r x
+      → Answered onAStatement (outcome b locked account) l r x
+  pub length : (b locked : List ℕ) (account : ℕ) (r : WrittenAnswer) → LengthCall b locked account r → LengthAnswered r
+  pub balance : (b locked : List ℕ) (number : ℕ) (r : PoolAnswer) → r ≡ poolAnswer (balanceOf b locked number) → PoolAnswered r
   pub header : (s : List ℕ) (r : HeadingAnswer) → r ≡ headingAnswer (headingRead s) → HeadingAnswered r
   pub line : (s : List ℕ) (index : ℕ) (r : EntryAnswer) → r ≡ entryAnswer (lineRead s index) → EntryAnswered r
   pub rewrite : (s l : List ℕ) (r : WrittenAnswer) (x : List ℕ) → RewriteCall s l r x → Answered onRewriting (rewritten s) l r x

@@ -9,9 +9,9 @@ use lib.ListN.{length}
 use Rattle.ground.specs.Bytes.{AreBytes, part, u64At, i64At}
 use Rattle.book.specs.Header.{headerOf}
 use Rattle.book.specs.Book.{bookOf}
-use Rattle.book.specs.Table.{verdict}
+use Rattle.book.specs.Table.{lockedFor, verdict}
 use Rattle.accounts.specs.Rows.{keep, sumOf}
-use Rattle.accounts.specs.Account.{publicOf, rowsOfAccount, unknown}
+use Rattle.accounts.specs.Account.{publicOf, rowsOfAccount, lockedOf, unnamed}
 use Rattle.sharing.specs.Once.{times}
 use Rattle.statement.specs.Statement.{statementBytes}
 use Rattle.statement.specs.declared.Heading.{Heading}
@@ -35,13 +35,17 @@ use Rattle.demands.specs.Demand1.{Gives, StatementCall, RewriteCall, Lin
 
 -- ---- the statement
 
+-- the guide's lines of an account, with these bytes lent as the locked book
+abbrev pub linesByTheGuide : List ℕ → List ℕ → ℕ → List Line
+linesByTheGuide b locked account = guideLines b (lockedFor b locked) account
+
 -- the header of an account's statement: "interval, date and run as in the book", and how many lines the guide gives it
-abbrev pub guideHeading : List ℕ → ℕ → Heading
-guideHeading b account = headingOf account (publicOf (bookOf b)) (length (guideLines b account))
+abbrev pub guideHeading : List ℕ → List ℕ → ℕ → Heading
+guideHeading b locked account = headingOf account (publicOf (bookOf b)) (length (linesByTheGuide b locked account))
 
 -- an account's statement: that header, and the guide's lines
-abbrev pub guideStatement : List ℕ → ℕ → List ℕ
-guideStatement b account = statementBytes (guideHeading b account) (guideLines b account)
+abbrev pub guideStatement : List ℕ → List ℕ → ℕ → List ℕ
+guideStatement b locked account = statementBytes (guideHeading b locked account) (linesByTheGuide b locked account)
 
 -- line i of a list: "numbered from 0"; 15 past the end
 unfoldable pub numbered : List Line → ℕ → LineRead
@@ -53,12 +57,12 @@ numbered (l ∷ ls) (suc i) = numbered ls i
 abbrev pub front : WrittenAnswer → List ℕ → List ℕ
 front r x = part x 0 (r .length)
 
-pub record StatementIsTheGuides (b : List ℕ) (account : ℕ) (l : List ℕ) (r : WrittenAnswer) (x : List ℕ) : Type 0 where
+pub record StatementIsTheGuides (b locked : List ℕ) (account : ℕ) (l : List ℕ) (r : WrittenAnswer) (x : List ℕ) : Type 0 where
   -- "every line is the guide's", and so is the header
-  pub bytes : Gives (guideStatement b account) l r x
+  pub bytes : Gives (guideStatement b locked account) l r x
   -- "a statement written and read gives the same lines": what the header call and the line call then answer of it
-  pub heading : headingAnswer (headingRead (front r x)) ≡ headingAnswer (heading.Heading (guideHeading b account))
-  pub lines : (index : ℕ) → entryAnswer (lineRead (front r x) index) ≡ entryAnswer (numbered (guideLines b account) index)
+  pub heading : headingAnswer (headingRead (front r x)) ≡ headingAnswer (heading.Heading (guideHeading b locked account))
+  pub lines : (index : ℕ) → entryAnswer (lineRead (front r x) index) ≡ entryAnswer (numbered (linesByTheGuide b locked account) index)
 
 -- ---- all lines of a statement at once
 
@@ -83,23 +87,28 @@ pub record LinesAreTheLineCalls (s : List ℕ) (r : WrittenAnswer) (x : List ℕ
 -- ---- the balance
 
 -- an account's lines in a pool
-abbrev pub guideLinesIn : List ℕ → Pool → ℕ → List Line
-guideLinesIn b p account = keep (inPool p) (guideLines b account)
+abbrev pub guideLinesIn : List ℕ → List ℕ → Pool → ℕ → List Line
+guideLinesIn b locked p account = keep (inPool p) (linesByTheGuide b locked account)
+
+-- 02, Req 04: "balances are over the accounts of both books"
+abbrev pub accountsOfBoth : List ℕ → List ℕ → List ℕ
+accountsOfBoth b locked = accountsOf (bookOf b) (bookOf (lockedFor b locked))
 
 -- 01, Balance: "Amount plus sum is at most half a unit of money per line, and one half more for a regulation or FPP pool, or one half more
 -- per benefiting region for a contract, in size": so many half units
 abbrev pub halfUnits : Pool → ℕ → ℕ
 halfUnits p lines = lines + p .stages
 
-pub record PoolCloses (b : List ℕ) (number : ℕ) (r : PoolAnswer) : Type 0 where
+pub record PoolCloses (b locked : List ℕ) (number : ℕ) (r : PoolAnswer) : Type 0 where
   pub pool : Pool
   pub there : poolAt (poolsIn (publicOf (bookOf b))) number ≡ found pool
   pub amount : r .amount ≡ pos (pool .amount)
   -- "all accounts (each that 11 lets pass)": each stands there once
-  pub everyone : (account : ℕ) → times account (accountsOf (bookOf b)) ≡ cond (not (unknown (rowsOfAccount (bookOf b) account))) 1 0
+  pub everyone : (account : ℕ) → times account (accountsOfBoth b locked)
+      ≡ cond (not (unnamed (rowsOfAccount (bookOf b) account) (lockedOf (bookOf (lockedFor b locked)) account))) 1 0
   -- "how many lines all accounts have in that pool, and their sum"
-  pub lines : r .lines ≡ sumOf (λ a. length (guideLinesIn b pool a)) (accountsOf (bookOf b))
-  pub sum : r .sum ≡ sumZ (λ a. sumZ (λ (l : Line). l .amount) (guideLinesIn b pool a)) (accountsOf (bookOf b))
+  pub lines : r .lines ≡ sumOf (λ a. length (guideLinesIn b locked pool a)) (accountsOfBoth b locked)
+  pub sum : r .sum ≡ sumZ (λ a. sumZ (λ (l : Line). l .amount) (guideLinesIn b locked pool a)) (accountsOfBoth b locked)
   pub closes : 2 * natAbs (r .amount +ℤ r .sum) ≤ halfUnits pool (r .lines)
 
 -- ---- the book
@@ -114,11 +123,13 @@ pub record NumbersAreTheGuides (b : List ℕ) : Type 0 where
 -- ---- the demand, of what the calls promise where they do not refuse
 
 pub record EveryLineIsTheGuides : Type 0 where
-  pub check : (b : List ℕ) → AreBytes b → (r : VerdictAnswer) → r ≡ verdictAnswer (verdict b) → r .refusal ≡ 0 → NumbersAreTheGuides b
-  pub statement : (b : List ℕ) → AreBytes b → (account : ℕ) → account < 2 ^ 32 → (l : List ℕ) (r : WrittenAnswer) (x : List ℕ)
-      → StatementCall b account l r x → r .refusal ≡ 0 → StatementIsTheGuides b account l r x
-  pub balance : (b : List ℕ) → AreBytes b → (number : ℕ) (r : PoolAnswer) → r ≡ poolAnswer (balanceOf b number) → r .refusal ≡ 0
-      → PoolCloses b number r
+  -- of the book, and of the one that test payments are settled by
+  pub check : (b locked : List ℕ) → AreBytes b → AreBytes locked → (r : VerdictAnswer) → r ≡ verdictAnswer (verdict b locked) → r .refusal ≡ 0
+      → NumbersAreTheGuides b × NumbersAreTheGuides (lockedFor b locked)
+  pub statement : (b locked : List ℕ) → AreBytes b → AreBytes locked → (account : ℕ) → account < 2 ^ 32 → (l : List ℕ) (r : WrittenAnswer) (x : List ℕ)
+      → StatementCall b locked account l r x → r .refusal ≡ 0 → StatementIsTheGuides b locked account l r x
+  pub balance : (b locked : List ℕ) → AreBytes b → AreBytes locked → (number : ℕ) (r : PoolAnswer) → r ≡ poolAnswer (balanceOf b locked number)
+      → r .refusal ≡ 0 → PoolCloses b locked number r
   -- "read and written, the same bytes"
   pub rewrite : (s : List ℕ) → AreBytes s → (l : List ℕ) (r : WrittenAnswer) (x : List ℕ) → RewriteCall s l r x → r .refusal ≡ 0 → Gives s l r x
   pub lines : (s : List ℕ) → AreBytes s → (l : List ℕ) (r : WrittenAnswer) (x : List ℕ) → LinesCall s l r x → r .refusal ≡ 0

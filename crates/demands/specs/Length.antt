@@ -6,9 +6,9 @@ use mathlib.Core.Path.{_≡_}
 use mathlib.Core.List.{List}
 use lib.ListN.{length}
 use Rattle.ground.specs.Bytes.{AreBytes}
-use Rattle.guide.specs.Guide.{guideLines}
 use Rattle.answers.specs.declared.WrittenAnswer.{WrittenAnswer}
 use Rattle.demands.specs.Demand1.{Refuses, LengthCall, StatementCall}
+use Rattle.demands.specs.Demand2.{linesByTheGuide}
 
 pub record AskedFirst (l : List ℕ) (r s : WrittenAnswer) (x : List ℕ) : Type 0 where
   -- the length is that of what is written
@@ -23,10 +23,11 @@ pub record AskedFirst (l : List ℕ) (r s : WrittenAnswer) (x : List ℕ) : Type
   pub back : (s .refusal ≡ 0 → ⊥) → (s .refusal ≡ 13 → ⊥) → r ≡ s
 
 -- 24 bytes of header, and 24 of each line that the guide gives the account
-abbrev pub AsLongAsTheGuides : List ℕ → ℕ → WrittenAnswer → Type 0
-AsLongAsTheGuides b account r = r .length ≡ 24 + 24 * length (guideLines b account)
+abbrev pub AsLongAsTheGuides : List ℕ → List ℕ → ℕ → WrittenAnswer → Type 0
+AsLongAsTheGuides b locked account r = r .length ≡ 24 + 24 * length (linesByTheGuide b locked account)
 
 pub record LengthIsTheStatements : Type 0 where
-  pub calls : (b : List ℕ) (account : ℕ) (l : List ℕ) (r s : WrittenAnswer) (x : List ℕ) → LengthCall b account r → StatementCall b account l s x
-      → AskedFirst l r s x
-  pub lines : (b : List ℕ) → AreBytes b → (account : ℕ) (r : WrittenAnswer) → LengthCall b account r → r .refusal ≡ 0 → AsLongAsTheGuides b account r
+  pub calls : (b locked : List ℕ) (account : ℕ) (l : List ℕ) (r s : WrittenAnswer) (x : List ℕ) → LengthCall b locked account r
+      → StatementCall b locked account l s x → AskedFirst l r s x
+  pub lines : (b locked : List ℕ) → AreBytes b → AreBytes locked → (account : ℕ) (r : WrittenAnswer) → LengthCall b locked account r
+      → r .refusal ≡ 0 → AsLongAsTheGuides b locked account r

@@ -16,32 +16,38 @@ use answers::PoolAnswer;
 use answers::VerdictAnswer;
 use answers::WrittenAnswer;
 
-// Whether these bytes are a book that all ten checks accept, and which refuses it where if not.
+// Whether these bytes are a book that all checks accept, and which refuses it where if not. An empty slice is no locked book, here as in the
+// other calls on a book.
 #[no_mangle]
-pub extern "C" fn fervolatro_check(book: &[u8]) -> VerdictAnswer
-    ensures { λ r. ⌜ r ≡ verdictAnswer (verdict (now (book .entry))) ⌝ }
+pub extern "C" fn fervolatro_check<'a>(book: &'a [u8], locked: &'a [u8]) -> VerdictAnswer
+    ensures { λ r. ⌜ r ≡ verdictAnswer (verdict (now (book .entry)) (now (locked .entry))) ⌝ }
 {
-    answers::answer(verdict::check(book))
+    answers::answer(verdict::check(book, locked))
 }
 
 // How long the statement of an account is.
 #[no_mangle]
-pub extern "C" fn fervolatro_length(book: &[u8], account: u32) -> WrittenAnswer
-    ensures { λ r. ⌜ r ≡ writtenAnswer (lengthFor (outcome (now (book .entry)) account)) ⌝ }
+pub extern "C" fn fervolatro_length<'a>(
+    book: &'a [u8],
+    locked: &'a [u8],
+    account: u32,
+) -> WrittenAnswer
+    ensures { λ r. ⌜ r ≡ writtenAnswer (lengthFor (outcome (now (book .entry)) (now (locked .entry)) account)) ⌝ }
 {
-    answers::written(settlement::length(book, account))
+    answers::written(settlement::length(book, locked, account))
 }
 
 // The statement of an account, written at the front of the buffer, or the refusal that leaves every byte of it.
 #[no_mangle]
-pub extern "C" fn fervolatro_statement(
-    book: &[u8],
+pub extern "C" fn fervolatro_statement<'a>(
+    book: &'a [u8],
+    locked: &'a [u8],
     account: u32,
     buffer: &mut [u8],
 ) -> WrittenAnswer
-    ensures { λ r. ⌜ Called (outcome (now (book .entry)) account) (now (buffer .entry)) r (now (buffer .exit)) ⌝ }
+    ensures { λ r. ⌜ Called (outcome (now (book .entry)) (now (locked .entry)) account) (now (buffer .entry)) r (now (buffer .exit)) ⌝ }
 {
-    answers::written(settlement::statement(book, account, buffer))
+    answers::written(settlement::statement(book, locked, account, buffer))
 }
 
 // The header of a statement.
@@ -78,10 +84,14 @@ pub extern "C" fn fervolatro_rewrite(bytes: &[u8], buffer: &mut [u8]) -> Written
 
 // The balance of the pool of a number from 0.
 #[no_mangle]
-pub extern "C" fn fervolatro_balance(book: &[u8], number: u64) -> PoolAnswer
-    ensures { λ r. ⌜ r ≡ poolAnswer (balanceOf (now (book .entry)) number) ⌝ }
+pub extern "C" fn fervolatro_balance<'a>(
+    book: &'a [u8],
+    locked: &'a [u8],
+    number: u64,
+) -> PoolAnswer
+    ensures { λ r. ⌜ r ≡ poolAnswer (balanceOf (now (book .entry)) (now (locked .entry)) number) ⌝ }
 {
-    answers::pool(balance::pool_balance(book, number))
+    answers::pool(balance::pool_balance(book, locked, number))
 }
 
 // The payment of a service, from dispatch rows.

@@ -1,6 +1,6 @@
 -- The records by their sizes and the records with their signs say the same of the same bytes, where each keeps its rule (check 5).
 -- Assumes nothing.
-use Prim.Native.Nat.{ℕ, zero, suc, _+_, _*_, _<_, _^_}
+use Prim.Native.Nat.{ℕ, _+_, _*_, _<_, _^_}
 use mathlib.Core.Path.{_≡_, refl, ap, ap₂, _∙_}
 use mathlib.Core.Bool.{true}
 use mathlib.Core.List.{List}
@@ -65,6 +65,7 @@ pub record SizedEnergy (r : EnergyRow) (z : SignedEnergy) : Type 0 where
 
 pub record SizedContract (k : Contract) (z : SignedContract) : Type 0 where
   pub id : z .id ≡ k .id
+  pub kind : z .kind ≡ k .kind
   pub payment : z .payment ≡ pos (k .payment)
   pub factor : (g : ℕ) → g < 5 → z .factor g ≡ factorOf (k .factors) g
 
@@ -139,7 +140,13 @@ module _ (s : List ℕ) (b : AreBytes s) where
 
   contract-sized : (i : ℕ) → ContractRule (contractRow s i) → SizedContract (contractRow s i) (contractAt s i)
   unfolding contractRow contractAt
-  contract-sized i r = record { id = refl; payment = money-at s b (i * 36 + 8) (omega (arith, r .payment)); factor = five (λ g. u32At s (i * 36 + (16 + g * 4)) ≡ factorOf (contractRow s i .factors) g) refl refl refl refl refl }
+  contract-sized i r =
+      record {
+        id = refl;
+        kind = refl;
+        payment = money-at s b (i * 36 + 8) (omega (arith, r .payment));
+        factor = five (λ g. u32At s (i * 36 + (16 + g * 4)) ≡ factorOf (contractRow s i .factors) g) refl refl refl refl refl;
+      }
 
 -- ---- a book whose records keep their rules
 

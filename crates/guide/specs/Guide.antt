@@ -8,6 +8,7 @@ use mathlib.Core.List.{List, [], _∷_, _++_}
 use lib.Dec.{eqb}
 use lib.IntN.{ℤ, pos, negℤ, _-ℤ_, _*ℤ_}
 use Rattle.market.specs.Kinds.{raises, bitSet}
+use Rattle.locking.specs.Locking.{sourceOf, pick}
 use Rattle.accounts.specs.Rows.{joined}
 use Rattle.statement.specs.declared.Line.{Line}
 use Rattle.guide.specs.Numbers.{sum, round, min0, wholeFactor}
@@ -134,11 +135,17 @@ regionLines total own k g =
     ∷ regionLine k 10 g (sentHalf (regionPart k g)) (own g .asoe) (total g .asoe)
     ∷ [])
 
+-- 02, Req 04: "Kind 2 contracts therefore take energies and region totals from a second book, the locked one; kind 1 from the current one."
+unfoldable pub contractLines : SignedBook → SignedBook → ℕ → SignedContract → List Line
+contractLines current locked account k =
+    let from = sourceOf (k .kind) in
+    joined (regionLines (pick from (current .entry) (locked .entry)) (pick from (ownIn current account) (ownIn locked account)) k) 5
+
 -- ---- the statement's lines
 
--- "Constraints in book order: .. Then contracts, each benefiting region rising"
-unfoldable pub guideLines : List ℕ → ℕ → List Line
-guideLines b account =
+-- "Constraints in book order: .. Then contracts, each benefiting region rising"; l are the bytes of the book that test payments are settled by
+unfoldable pub guideLines : List ℕ → List ℕ → ℕ → List Line
+guideLines b l account =
     let S = signedBook b in
     joined (λ j. constraintLines S account (S .constraint j)) (S .header .constraints)
-    ++ joined (λ k. joined (regionLines (S .entry) (ownIn S account) (S .contract k)) 5) (S .header .contracts)
+    ++ joined (λ k. contractLines S (signedBook l) account (S .contract k)) (S .header .contracts)

@@ -88,9 +88,10 @@ energyAt s i =
 abbrev pub te : SignedEnergy → ℤ
 te r = pos (natAbs (r .restAce) + natAbs (r .restAsoe))
 
--- a contract, 36 bytes: payment is SRP, the factor of region g is RBF (000, 3.5)
+-- a contract, 36 bytes: "kind u8, 1 ordinary or 2 test"; payment is SRP, the factor of region g is RBF (000, 3.5)
 pub record SignedContract : Type 0 where
   pub id : ℕ
+  pub kind : ℕ
   pub payment : ℤ
   pub factor : ℕ → ℕ
 
@@ -98,6 +99,7 @@ unfoldable pub contractAt : List ℕ → ℕ → SignedContract
 contractAt s i =
     record {
       id = u32At s (i * 36);
+      kind = byteAt s (i * 36 + 4);
       payment = i64At s (i * 36 + 8);
       factor = λ g. u32At s (i * 36 + (16 + g * 4));
     }

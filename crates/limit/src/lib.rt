@@ -8,7 +8,7 @@ ghost use Rattle.records.specs.Rows.{constraintRow, contractRow};
 ghost use Rattle.rules.specs.Inner.Facts.{ConstraintRule};
 ghost use Rattle.book.specs.Book.{bookIn};
 ghost use Rattle.book.specs.Inner.Facts.{Laid};
-ghost use Rattle.book.specs.Inner.Accepted.{Promise};
+ghost use Rattle.book.specs.Inner.Accepted.{Sound};
 ghost use Rattle.limit.specs.Inner.Limits.{constraintOver, contractOver, bookOver};
 use amounts::pools;
 use book::header::Header;
@@ -53,7 +53,7 @@ fn contracts(contracts: &[u8], n: usize) -> bool
 // Whether a pool of the book passes the limit.
 pub fn passed(book: &[u8], h: Header) -> bool
     requires { ⌜ Laid (now book) h ⌝ }
-    requires { ⌜ Promise (bookIn (now book) h) ⌝ }
+    requires { ⌜ Sound (bookIn (now book) h) ⌝ }
     ensures { λ b. ⌜ b ≡ bookOver (bookIn (now (book .entry)) h) ⌝ }
 {
     let paid = h.contracts_at();

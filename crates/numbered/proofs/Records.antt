@@ -7,6 +7,8 @@ use Rattle.ground.proofs.Nth.{nth-front, nth-behind}
 use Rattle.sections.specs.Inner.Order.{Rises}
 use Rattle.sections.specs.Inner.Walk.{Stands, Names}
 use Rattle.sections.proofs.Walk.{stands-next}
+use Rattle.ground.specs.Bytes.{partFrom}
+use Rattle.records.specs.Rows.{entryRow}
 use Rattle.records.specs.declared.rows.Entry.{Entry}
 use Rattle.records.specs.declared.rows.Constraint.{Constraint}
 use Rattle.records.specs.declared.rows.UnitRow.{UnitRow}
@@ -18,11 +20,16 @@ use Rattle.totals.specs.declared.entries.Totals.{Totals}
 use Rattle.book.specs.Book.{bookIn}
 use Rattle.book.specs.Header.{unitsFrom, contractsFrom}
 use Rattle.book.specs.declared.header.Header.{Header}
+use Rattle.locking.specs.Locking.{sourceOf, pick}
+use Rattle.locking.specs.Inner.Handed.{Handed}
+use Rattle.locking.specs.declared.Source.{Source}
 use Rattle.accounts.specs.Rows.{joined}
+use Rattle.accounts.specs.declared.energies.OwnEnergies.{OwnEnergies}
 use Rattle.statement.specs.declared.Line.{Line}
 use Rattle.lines.specs.Lines.{regionLines}
-use Rattle.lines.specs.Inner.Walks.{conLines, conLinesAt, contractLinesAt, bookLines, Ready}
+use Rattle.lines.specs.Inner.Walks.{conLines, conLinesAt, contractLinesAt, settledLines, totalsFrom, ownFrom, bookLines, Ready}
 use Rattle.lines.proofs.Parts.{conPart, paidPart, both-parts}
+use Rattle.lines.proofs.Picked.{lines-in}
 use Rattle.lookup.specs.ByNumber.{answerOf, numberedIn}
 use Rattle.lookup.specs.Inner.Sought.{Rests, Bare, SoughtIn}
 use Rattle.lookup.specs.declared.Numbered.{Numbered}
@@ -56,29 +63,35 @@ module _ (entry : ℕ → Entry) (con : ℕ → Constraint) (unit : ℕ → Unit
   unfolding SoughtIn
   con-next {n} {next} rise names f l = stands-next (keyOf unit) m (idOf con) n rise names j next (rw e at ((rw f at g) .0)) l
 
+-- ---- one contract; r is the energy section that was handed back, and t the account's energies in the same book
+
+module _ {b l r : List ℕ} {s : Source} (h : Handed s b l r) (own : OwnEnergies) (k : Contract) {t : Totals} (e : s ≡ sourceOf (k .kind)) (f : t ≡ pick s (own .current) (own .locked)) where
+  pub line-in : (number : ℕ) {x : Numbered} → x ≡ numberedIn (joined (regionLines (entryRow r) (entryOf t) k) 5) number → x ≡ numberedIn (settledLines (entryRow (partFrom 24 b)) (entryRow (partFrom 24 l)) own k) number
+  line-in number g = g ∙ ap (λ (ls : List Line). numberedIn ls number) (lines-in h own k e f)
+
 -- ---- contracts, likewise
 
-module _ (entry own : ℕ → Entry) (contract : ℕ → Contract) (number i : ℕ) {left : ℕ} (h : nth (joined (contractLinesAt entry own contract) i) number ≡ past left) {k : Contract} (e : k ≡ contract i) {x : Numbered} (g : x ≡ numberedIn (joined (regionLines entry own k) 5) left) where
-  pub paid-found : (n : ℕ) {l : Line} → i < n → x ≡ numbered.Line l → numbered.Line l ≡ numberedIn (joined (contractLinesAt entry own contract) n) number
+module _ (current locked : ℕ → Entry) (own : OwnEnergies) (contract : ℕ → Contract) (number i : ℕ) {left : ℕ} (h : nth (joined (contractLinesAt (totalsFrom current locked) (ownFrom own) contract) i) number ≡ past left) {k : Contract} (e : k ≡ contract i) {x : Numbered} (g : x ≡ numberedIn (settledLines current locked own k) left) where
+  pub paid-found : (n : ℕ) {l : Line} → i < n → x ≡ numbered.Line l → numbered.Line l ≡ numberedIn (joined (contractLinesAt (totalsFrom current locked) (ownFrom own) contract) n) number
   unfolding contractLinesAt
-  paid-found n b f = line-told _ number (found-in (contractLinesAt entry own contract) number i h n b (rw e at (line-there _ left g f)))
+  paid-found n b f = line-told _ number (found-in (contractLinesAt (totalsFrom current locked) (ownFrom own) contract) number i h n b (rw e at (line-there _ left g f)))
 
-  pub paid-passed : {rest : ℕ} → x ≡ numbered.Past rest → nth (joined (contractLinesAt entry own contract) (i + 1)) number ≡ past rest
+  pub paid-passed : {rest : ℕ} → x ≡ numbered.Past rest → nth (joined (contractLinesAt (totalsFrom current locked) (ownFrom own) contract) (i + 1)) number ≡ past rest
   unfolding contractLinesAt
-  paid-passed f = pass-more (contractLinesAt entry own contract) number i h (rw e at (past-there _ left g f))
+  paid-passed f = pass-more (contractLinesAt (totalsFrom current locked) (ownFrom own) contract) number i h (rw e at (past-there _ left g f))
 
 -- ---- all lines
 
-module _ (b : List ℕ) (h : Header) (account : ℕ) (own : Totals) (u k : ℕ) (e : u ≡ unitsFrom h) (f : k ≡ contractsFrom h) (number : ℕ) {x : Numbered} (g : x ≡ numberedIn (conPart b h account own u) number) where
-  pub line-first : {l : Line} → x ≡ numbered.Line l → numbered.Line l ≡ numberedIn (bookLines (bookIn b h) account own) number
-  line-first p =
+module _ (b : List ℕ) (h : Header) (i : List ℕ) (k : Header) (account : ℕ) (own : OwnEnergies) (u p : ℕ) (e : u ≡ unitsFrom h) (f : p ≡ contractsFrom h) (number : ℕ) {x : Numbered} (g : x ≡ numberedIn (conPart b h i k account own u) number) where
+  pub line-first : {l : Line} → x ≡ numbered.Line l → numbered.Line l ≡ numberedIn (bookLines (bookIn b h) (bookIn i k) account own) number
+  line-first q =
       line-told _ number
-      (rw (both-parts b h account own u k e f) (nth-front (conPart b h account own u) (paidPart b h account own k) number (line-there _ number g p)))
+      (rw (both-parts b h i k account own u p e f) (nth-front (conPart b h i k account own u) (paidPart b h i k account own p) number (line-there _ number g q)))
 
-  module _ {left : ℕ} (p : x ≡ numbered.Past left) where
-    behind : nth (bookLines (bookIn b h) account own) number ≡ nth (paidPart b h account own k) left
-    behind = rw (both-parts b h account own u k e f) (nth-behind (conPart b h account own u) (paidPart b h account own k) number (past-there _ number g p))
+  module _ {left : ℕ} (q : x ≡ numbered.Past left) where
+    behind : nth (bookLines (bookIn b h) (bookIn i k) account own) number ≡ nth (paidPart b h i k account own p) left
+    behind = rw (both-parts b h i k account own u p e f) (nth-behind (conPart b h i k account own u) (paidPart b h i k account own p) number (past-there _ number g q))
 
-    pub line-behind : (y : Numbered) → y ≡ numberedIn (paidPart b h account own k) left → y ≡ numberedIn (bookLines (bookIn b h) account own) number
+    pub line-behind : (y : Numbered) → y ≡ numberedIn (paidPart b h i k account own p) left → y ≡ numberedIn (bookLines (bookIn b h) (bookIn i k) account own) number
     unfolding numberedIn
-    line-behind y q = q ∙ ap answerOf (sym behind)
+    line-behind y r = r ∙ ap answerOf (sym behind)

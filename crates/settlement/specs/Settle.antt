@@ -1,4 +1,5 @@
--- The statement of an account. It takes two things only: the public part of a book, and the account's own rows. 01, The amounts, The statement.
+-- The statement of an account. It takes three things only: the public part of a book, the account's own rows, and, of the book that test payments
+-- are settled by, the region totals and the account's own rows. 01, The amounts, The statement; 02, Req 04.
 use Prim.Native.Nat.{ℕ, zero, suc}
 use mathlib.Core.Bool.{cond}
 use mathlib.Core.List.{List, [], _∷_, _++_}
@@ -11,11 +12,12 @@ use Rattle.records.specs.declared.rows.Constraint.{Constraint}
 use Rattle.records.specs.declared.rows.UnitRow.{UnitRow}
 use Rattle.records.specs.declared.rows.Contract.{Contract}
 use Rattle.totals.specs.Divisors.{overRegions}
-use Rattle.book.specs.Book.{bookOf}
-use Rattle.book.specs.Table.{verdict}
+use Rattle.locking.specs.Locking.{settledBy, pick}
+use Rattle.book.specs.Book.{Book, bookOf}
+use Rattle.book.specs.Table.{lockedFor, verdict}
 use Rattle.amounts.specs.Pools.{poolsOf, residualPools}
 use Rattle.accounts.specs.Rows.{joined, concatMap}
-use Rattle.accounts.specs.Account.{Public, Rows, publicOf, rowsOfAccount, ownEnergy, unknown}
+use Rattle.accounts.specs.Account.{Public, Rows, LockedPart, publicOf, rowsOfAccount, lockedOf, ownEnergy, unnamed}
 use Rattle.statement.specs.Statement.{statementBytes}
 use Rattle.statement.specs.Lent.{Outcome, refuses, gives}
 use Rattle.statement.specs.declared.Heading.{Heading}
@@ -45,32 +47,47 @@ constraintLines total own units r =
 unfoldable pub contractLines : (ℕ → Entry) → (ℕ → Entry) → Contract → List Line
 contractLines total own k = joined (regionLines total own k) 5
 
+-- "Kind 2 contracts therefore take energies and region totals from a second book, the locked one; kind 1 from the current one."
+unfoldable pub linesBy : Public → Rows → LockedPart → Contract → List Line
+linesBy public rows locked k =
+    contractLines (pick (settledBy k) (entryIn (public .entries)) (entryIn (locked .entries)))
+    (pick (settledBy k) (ownEnergy (rows .energies)) (ownEnergy (locked .rows .energies))) k
+
 -- "Constraints in book order", then contracts
-unfoldable pub linesOf : Public → Rows → List Line
-linesOf public rows =
+unfoldable pub linesOf : Public → Rows → LockedPart → List Line
+linesOf public rows locked =
     concatMap (constraintLines (entryIn (public .entries)) (ownEnergy (rows .energies)) (rows .units)) (public .constraints)
-    ++ concatMap (contractLines (entryIn (public .entries)) (ownEnergy (rows .energies))) (public .contracts)
+    ++ concatMap (linesBy public rows locked) (public .contracts)
 
 -- ---- the statement
 
 abbrev pub headingOf : ℕ → Public → ℕ → Heading
 headingOf account public n = record { account = account; date = public .date; interval = public .interval; run = public .run; lines = n }
 
-unfoldable pub statementOf : ℕ → Public → Rows → List ℕ
-statementOf account public rows = statementBytes (headingOf account public (length (linesOf public rows))) (linesOf public rows)
+unfoldable pub statementOf : ℕ → Public → Rows → LockedPart → List ℕ
+statementOf account public rows locked =
+    statementBytes (headingOf account public (length (linesOf public rows locked))) (linesOf public rows locked)
 
 -- ---- what the two calls answer, and what the one that writes leaves: `lengthFor`, `answerFor` and `leftIn` of this (statement/specs/Lent.antt)
 
--- 11: "no unit row and no energy row names the account"; 12: "a line would pass 50,000,000,000 either way"
-unfoldable pub settled : ℕ → Public → Rows → Outcome
-settled account public rows =
-    cond (unknown rows) (refuses 11 0)
-    (cond (anyOver (linesOf public rows)) (refuses 12 0) (gives (statementOf account public rows)))
+-- 11: "no book read names the account"; 12: "a line would pass 50,000,000,000 either way"
+unfoldable pub settled : ℕ → Public → Rows → LockedPart → Outcome
+settled account public rows locked =
+    cond (unnamed rows locked) (refuses 11 0)
+    (cond (anyOver (linesOf public rows locked)) (refuses 12 0) (gives (statementOf account public rows locked)))
 
--- "Numbers 1 to 10 come from every call on a book."
+-- of an account of the book B, where L is the book that test payments are settled by
+abbrev pub settledIn : Book → Book → ℕ → Outcome
+settledIn B L account = settled account (publicOf B) (rowsOfAccount B account) (lockedOf L account)
+
+abbrev pub linesFor : Book → Book → ℕ → List Line
+linesFor B L account = linesOf (publicOf B) (rowsOfAccount B account) (lockedOf L account)
+
+-- "Numbers 1 to 10 come from every call on a book." And so do 17 and 18.
 unfoldable pub outcomeIf : Verdict → Outcome → Outcome
 outcomeIf Accepted o = o
 outcomeIf (Refused number place) o = refuses number place
 
-unfoldable pub outcome : List ℕ → ℕ → Outcome
-outcome b account = outcomeIf (verdict b) (settled account (publicOf (bookOf b)) (rowsOfAccount (bookOf b) account))
+-- of the book b, with l lent as the locked one
+unfoldable pub outcome : List ℕ → List ℕ → ℕ → Outcome
+outcome b l account = outcomeIf (verdict b l) (settledIn (bookOf b) (bookOf (lockedFor b l)) account)

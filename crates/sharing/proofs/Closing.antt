@@ -8,13 +8,13 @@ use native.Mathlib.Nat.{le-of-mul-le-mul-left}
 use lib.ListN.{length}
 use Rattle.numbers.specs.Round.{roundN}
 use Rattle.numbers.proofs.Rounding.{half-above, half-below}
-use Rattle.records.specs.declared.rows.UnitRow.{UnitRow}
 use Rattle.records.specs.declared.rows.EnergyRow.{EnergyRow}
 use Rattle.accounts.specs.Rows.{sumOf}
 use Rattle.sharing.specs.Inner.Within.{HalvesApart}
-use Rattle.sharing.specs.Accounts.{accountsIn}
+use Rattle.sharing.specs.Accounts.{energyAccount}
 use Rattle.sharing.specs.Inner.Shares.{ownInPart, shareIn, Shareable}
 use Rattle.sharing.specs.declared.shares.Part.{Part}
+use Rattle.sharing.proofs.Once.{EachOnce}
 use Rattle.sharing.proofs.Everyone.{own-sum}
 
 -- ---- distances
@@ -52,10 +52,10 @@ module _ {A : Type 0} (g : A → ℕ) (p t : ℕ) (h : 0 < t) where
       let m : p * sumOf g l ≡ p * t = rw e in
       record { up = halves t s p (length l) h (omega arith); down = halves t p s (length l) h (omega arith) }
 
--- ---- a part of a pool, over all accounts
+-- ---- a part of a pool, over any list in which each account of an energy row stands once
 
 -- at most half a unit of money for each account's line
-pub part-closing : (p : Part) (energy : ℕ → EnergyRow) (n : ℕ) (unit : ℕ → UnitRow) (m : ℕ) → Shareable p energy n → HalvesApart (length (accountsIn energy n unit m)) (p .amount) (sumOf (shareIn p energy n) (accountsIn energy n unit m))
+pub part-closing : (p : Part) (energy : ℕ → EnergyRow) (n : ℕ) (all : List ℕ) → EachOnce (energyAccount energy) n all → Shareable p energy n → HalvesApart (length all) (p .amount) (sumOf (shareIn p energy n) all)
 unfolding shareIn
-part-closing p energy n unit m h =
-    closing (ownInPart p energy n) (p .amount) (p .whole) (h .above) (accountsIn energy n unit m) (own-sum p energy n unit m ∙ sym (h .whole))
+part-closing p energy n all o h =
+    closing (ownInPart p energy n) (p .amount) (p .whole) (h .above) all (own-sum p energy n all o ∙ sym (h .whole))

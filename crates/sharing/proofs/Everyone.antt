@@ -1,7 +1,7 @@
--- All accounts of a book: who they are, each once, and that sums over them count each row once. Assumes nothing.
-use Prim.Native.Nat.{ℕ, _+_, _*_, _≤_, _<_}
-use mathlib.Core.Path.{_≡_, refl, _∙_, sym}
-use mathlib.Core.List.{[]}
+-- All accounts of a book, and of two: who they are, each once, and that sums over them count each row once. Assumes nothing.
+use Prim.Native.Nat.{ℕ, _+_, _*_, _≤_}
+use mathlib.Core.Path.{_≡_, refl, _∙_, sym, ap}
+use mathlib.Core.List.{List, []}
 use mathlib.Core.Bool.{Bool, true, false, cond, not, _&&_, _||_, or-true, or-false}
 use native.Mathlib.Omega.{arith}
 use lib.Dec.{eqb}
@@ -10,19 +10,20 @@ use Rattle.numbers.specs.Round.{roundN}
 use Rattle.numbers.proofs.Rounding.{share-nothing}
 use Rattle.sections.specs.Total.{total}
 use Rattle.sections.specs.Search.{some}
+use Rattle.sections.proofs.Cases.{zero-one}
 use Rattle.sections.proofs.Total.{total-zero}
 use Rattle.records.specs.declared.rows.UnitRow.{UnitRow}
 use Rattle.records.specs.declared.rows.EnergyRow.{EnergyRow}
 use Rattle.book.specs.Book.{Book}
 use Rattle.accounts.specs.Rows.{sumOf, none}
-use Rattle.accounts.specs.Account.{rowsOfAccount, unknown}
+use Rattle.accounts.specs.Account.{rowsOfAccount, lockedOf, unknown, unnamed}
 use Rattle.accounts.proofs.Lists.{some-rows}
 use Rattle.sharing.specs.Once.{has, named, times}
 use Rattle.sharing.specs.Inner.Seen.{seen}
-use Rattle.sharing.specs.Accounts.{energyAccount, unitAccount, accountsIn}
+use Rattle.sharing.specs.Accounts.{energyAccount, unitAccount, accountsWith, accountsIn}
 use Rattle.sharing.specs.Inner.Shares.{energyIn, ownInPart, shareIn, partSum}
 use Rattle.sharing.specs.declared.shares.Part.{Part}
-use Rattle.sharing.proofs.Once.{seen-each, unseen-each, has-named, unseen, once-named, once-none, length-named, sum-each, sum-named}
+use Rattle.sharing.proofs.Once.{seen-each, unseen-each, has-named, once-named, once-none, length-named, sum-each, named-known, EachOnce, sum-once}
 
 -- ---- the accounts
 
@@ -32,6 +33,10 @@ module _ (energy : ℕ → EnergyRow) (n : ℕ) (unit : ℕ → UnitRow) (m : �
   unfolding accountsIn has seen
   is-account a =
       rw (has-named (unitAccount unit) m (named (energyAccount energy) n []) a, has-named (energyAccount energy) n [] a, or-false)
+
+  is-seen : (a : ℕ) → has a (accountsIn energy n unit m) ≡ (seen (unitAccount unit) m a || seen (energyAccount energy) n a)
+  unfolding seen
+  is-seen a = is-account a
 
   -- and stands among them once
   pub stands-once : (a : ℕ) → times a (accountsIn energy n unit m) ≡ cond (has a (accountsIn energy n unit m)) 1 0
@@ -44,19 +49,38 @@ module _ (energy : ℕ → EnergyRow) (n : ℕ) (unit : ℕ → UnitRow) (m : �
   accounts-few =
       omega (arith, length-named (unitAccount unit) m (named (energyAccount energy) n []), length-named (energyAccount energy) n [])
 
-  -- ---- sums that count each row once
+-- ---- of two books, the second of which is the one that test payments are settled by
 
-  pub each-once : (f : ℕ → ℕ) → sumOf (λ a. total (λ i. cond (eqb (energy i .account) a) (f i) 0) n) (accountsIn energy n unit m) ≡ total f n
-  unfolding seen
-  each-once f =
-      sum-each (energyAccount energy) f (accountsIn energy n unit m) n
-      (λ k l. stands-once (energy k .account) ∙ rw (is-account (energy k .account), seen-each (energyAccount energy) n k l, or-true))
+module _ (energy : ℕ → EnergyRow) (n : ℕ) (unit : ℕ → UnitRow) (m : ℕ) (energy' : ℕ → EnergyRow) (n' : ℕ) (unit' : ℕ → UnitRow) (m' : ℕ) where
+  abbrev both : List ℕ
+  both = accountsWith energy' n' unit' m' (accountsIn energy n unit m)
 
-  pub each-once-unit : (f : ℕ → ℕ) → sumOf (λ a. total (λ u. cond (eqb (unit u .account) a) (f u) 0) m) (accountsIn energy n unit m) ≡ total f m
+  -- an account is one that a row of either names
+  is-either : (a : ℕ) → has a both ≡ (seen (unitAccount unit') m' a || (seen (energyAccount energy') n' a || has a (accountsIn energy n unit m)))
+  is-either a = rw (has-named (unitAccount unit') m' (named (energyAccount energy') n' (accountsIn energy n unit m)) a, has-named (energyAccount energy') n' (accountsIn energy n unit m) a)
+
+  -- and stands among them once
+  pub either-once : (a : ℕ) → times a both ≡ cond (has a both) 1 0
+  either-once = once-named (unitAccount unit') m' _ (once-named (energyAccount energy') n' _ (stands-once energy n unit m))
+
+  -- each row's account does
+  pub energies-once : EachOnce (energyAccount energy) n both
   unfolding seen
-  each-once-unit f =
-      sum-each (unitAccount unit) f (accountsIn energy n unit m) m
-      (λ k l. stands-once (unit k .account) ∙ rw (is-account (unit k .account), seen-each (unitAccount unit) m k l))
+  energies-once = record { once = λ a e. either-once a ∙ rw (is-either a, is-account energy n unit m a, e, or-true, or-true, or-true) }
+
+  pub units-once : EachOnce (unitAccount unit) m both
+  unfolding seen
+  units-once = record { once = λ a e. either-once a ∙ rw (is-either a, is-account energy n unit m a, e, or-true, or-true) }
+
+  pub locked-energies-once : EachOnce (energyAccount energy') n' both
+  locked-energies-once = record { once = λ a e. either-once a ∙ rw (is-either a, e, or-true) }
+
+-- a book beside itself names no other account
+pub same-accounts : (energy : ℕ → EnergyRow) (n : ℕ) (unit : ℕ → UnitRow) (m : ℕ) → accountsWith energy n unit m (accountsIn energy n unit m) ≡ accountsIn energy n unit m
+unfolding seen
+same-accounts energy n unit m =
+    ap (named (unitAccount unit) m) (named-known (energyAccount energy) n _ (λ k l. rw (is-account energy n unit m (energy k .account), seen-each (energyAccount energy) n k l, or-true)))
+    ∙ named-known (unitAccount unit) m _ (λ k l. rw (is-account energy n unit m (unit k .account), seen-each (unitAccount unit) m k l))
 
 -- the accounts are those that 11 lets pass
 pub let-pass : (B : Book) (a : ℕ) → has a (accountsIn (B .energy) (B .header .energies) (B .unit) (B .header .units)) ≡ not (unknown (rowsOfAccount B a))
@@ -68,6 +92,27 @@ let-pass B a =
     by : (s t : Bool) → (not s || not t) ≡ not (s && t)
     by true t = refl
     by false t = refl
+
+-- nor of two books any other
+pub either-passes : (B L : Book) (a : ℕ) → has a (accountsWith (L .energy) (L .header .energies) (L .unit) (L .header .units) (accountsIn (B .energy) (B .header .energies) (B .unit) (B .header .units))) ≡ not (unnamed (rowsOfAccount B a) (lockedOf L a))
+unfolding lockedOf
+either-passes B L a =
+    is-either (B .energy) (B .header .energies) (B .unit) (B .header .units) (L .energy) (L .header .energies) (L .unit) (L .header .units) a
+    ∙ by (seen (unitAccount (L .unit)) (L .header .units) a) (seen (energyAccount (L .energy)) (L .header .energies) a) _ (unknown (rowsOfAccount B a)) (unknown (rowsOfAccount L a)) named-there (let-pass B a)
+  where
+    named-there : (seen (unitAccount (L .unit)) (L .header .units) a || seen (energyAccount (L .energy)) (L .header .energies) a) ≡ not (unknown (rowsOfAccount L a))
+    named-there = sym (is-seen (L .energy) (L .header .energies) (L .unit) (L .header .units) a) ∙ let-pass L a
+
+    by : (u e x y z : Bool) → (u || e) ≡ not z → x ≡ not y → (u || (e || x)) ≡ not (y && z)
+    by true e x y true p q = absurd (zero-one cc)
+    by true e x true false p q = refl
+    by true e x false false p q = refl
+    by false true x y true p q = absurd (zero-one cc)
+    by false true x true false p q = refl
+    by false true x false false p q = refl
+    by false false x true true p q = q
+    by false false x false true p q = q
+    by false false x y false p q = absurd (zero-one cc)
 
 -- ---- shares
 
@@ -87,13 +132,18 @@ module _ (p : Part) (energy : ℕ → EnergyRow) (n : ℕ) where
   unfolding shareIn
   share-none a e = sym (share-nothing (p .amount) (p .whole) (own-none a e))
 
-  module _ (unit : ℕ → UnitRow) (m : ℕ) where
-    -- so the shares of all accounts are those of the accounts that energy rows name
-    pub part-everyone : 0 < p .whole → partSum p energy n ≡ sumOf (shareIn p energy n) (accountsIn energy n unit m)
-    unfolding partSum accountsIn
-    part-everyone h = sym (sum-named (shareIn p energy n) (unitAccount unit) m _ (λ a e. share-none a (unseen (energyAccount energy) n a e)))
+  -- of any list in which each account of an energy row stands once
+  module _ (all : List ℕ) (o : EachOnce (energyAccount energy) n all) where
+    -- the shares are those of the accounts that energy rows name
+    pub part-everyone : partSum p energy n ≡ sumOf (shareIn p energy n) all
+    unfolding partSum
+    part-everyone = sym (sum-once (shareIn p energy n) (energyAccount energy) n share-none all o)
 
-    -- the accounts' own energy makes the whole
-    pub own-sum : sumOf (ownInPart p energy n) (accountsIn energy n unit m) ≡ total (λ i. energyIn p (energy i)) n
+    -- and their own energy makes the whole
+    pub own-sum : sumOf (ownInPart p energy n) all ≡ total (λ i. energyIn p (energy i)) n
     unfolding ownInPart
-    own-sum = each-once energy n unit m (λ i. energyIn p (energy i))
+    own-sum = sum-each (energyAccount energy) (λ i. energyIn p (energy i)) all n (λ k l. o .once (energy k .account) (seen-each (energyAccount energy) n k l))
+
+-- unit rows likewise, each counted once
+pub each-once-unit : (unit : ℕ → UnitRow) (m : ℕ) (all : List ℕ) → EachOnce (unitAccount unit) m all → (f : ℕ → ℕ) → sumOf (λ a. total (λ u. cond (eqb (unit u .account) a) (f u) 0) m) all ≡ total f m
+each-once-unit unit m all o f = sum-each (unitAccount unit) f all m (λ k l. o .once (unit k .account) (seen-each (unitAccount unit) m k l))

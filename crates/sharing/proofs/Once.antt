@@ -1,6 +1,6 @@
 -- Names, each once: which names stand in a list, how often and how many, and sums over them. Assumes nothing.
 use Prim.Native.Nat.{ℕ, zero, suc, _+_, _*_, _≤_, _<_}
-use mathlib.Core.Path.{_≡_, refl, _∙_, sym}
+use mathlib.Core.Path.{_≡_, refl, _∙_, sym, ap₂}
 use mathlib.Core.List.{List, [], _∷_}
 use mathlib.Core.Bool.{Bool, true, false, cond, _||_, or-true, or-false}
 use mathlib.Core.Logic.{⊎-elim}
@@ -16,7 +16,7 @@ use Rattle.sections.proofs.Search.{some-none}
 use Rattle.accounts.specs.Rows.{sumOf}
 use Rattle.sharing.specs.Once.{has, joinNew, named, times}
 use Rattle.sharing.specs.Inner.Seen.{seen, newly}
-use Rattle.sharing.proofs.Sums.{sum-plus, sum-none}
+use Rattle.sharing.proofs.Sums.{sum-same, sum-plus, sum-none}
 
 -- ---- names seen
 
@@ -62,11 +62,6 @@ has-named name (suc n) l a = rw (has-join, has-named name n l a) (by (eqb (name 
     by true true v = refl
     by true false v = refl
     by false u v = rw or-false
-
--- one that is not among the records' names is seen in none of them
-pub unseen : (name : ℕ → ℕ) (n a : ℕ) → has a (named name n []) ≡ false → seen name n a ≡ false
-unfolding has
-unseen name n a e = sym (or-false (seen name n a)) ∙ sym (has-named name n [] a) ∙ e
 
 -- ---- how often, and how many
 
@@ -159,16 +154,54 @@ sum-each name f l zero h = sum-none l
 sum-each name f l (suc n) h =
     rw (sum-plus (λ a. total (λ i. cond (eqb (name i) a) (f i) 0) n) (λ a. cond (eqb (name n) a) (f n) 0) l, sum-each name f l n (λ k m. h k (omega arith)), sum-at (name n) (f n) l, h n (le-refl (suc n)), one-mul)
 
--- names that add nothing leave a sum as it is
-pub sum-named : (g : ℕ → ℕ) (name : ℕ → ℕ) (n : ℕ) (l : List ℕ) → ((a : ℕ) → has a l ≡ false → g a ≡ 0) → sumOf g (named name n l) ≡ sumOf g l
-unfolding named joinNew sumOf
-sum-named g name zero l h = refl
-sum-named g name (suc n) l h = by (has (name n) (named name n l)) refl (sum-named g name n l h)
-  where
-    not-there : (t u : Bool) → (t || u) ≡ false → u ≡ false
-    not-there true u e = cc
-    not-there false u e = e
+-- names that stand in the list already leave it as it is
+pub named-known : (name : ℕ → ℕ) (n : ℕ) (l : List ℕ) → ((k : ℕ) → k < n → has (name k) l ≡ true) → named name n l ≡ l
+unfolding named joinNew
+named-known name zero l h = refl
+named-known name (suc n) l h = rw (named-known name n l (λ k m. h k (omega arith)), h n (le-refl (suc n)))
 
-    by : (t : Bool) → has (name n) (named name n l) ≡ t → sumOf g (named name n l) ≡ sumOf g l → sumOf g (cond t (named name n l) (name n ∷ named name n l)) ≡ sumOf g l
-    by true e i = i
-    by false e i = rw (h (name n) (not-there (seen name n (name n)) (has (name n) l) (sym (has-named name n l (name n)) ∙ e))) (omega arith)
+-- ---- sums over a list in which each of n records' names stands once
+
+pub record EachOnce (name : ℕ → ℕ) (n : ℕ) (l : List ℕ) : Type 0 where
+  pub once : (a : ℕ) → seen name n a ≡ true → times a l ≡ 1
+
+module _ (g : ℕ → ℕ) (name : ℕ → ℕ) (n : ℕ) (none : (a : ℕ) → seen name n a ≡ false → g a ≡ 0) where
+  is-named : (a : ℕ) → has a (named name n []) ≡ seen name n a
+  unfolding has
+  is-named a = has-named name n [] a ∙ or-false (seen name n a)
+
+  -- a name's own number, found among the records' names
+  own-number : (y : ℕ) → sumOf (λ x. cond (eqb y x) (g x) 0) (named name n []) ≡ g y
+  own-number y =
+      sum-same _ (λ x. cond (eqb y x) (g y) 0) (named name n []) (λ x. same x (eqb y x) refl)
+      ∙ sum-at y (g y) (named name n [])
+      ∙ rw (once-named name n [] once-none y, is-named y) (counted (seen name n y) refl)
+    where
+      same : (x : ℕ) (t : Bool) → eqb y x ≡ t → cond t (g x) 0 ≡ cond t (g y) 0
+      same x true e = rw (eqb-true y x e)
+      same x false e = refl
+
+      counted : (t : Bool) → seen name n y ≡ t → cond t 1 0 * g y ≡ g y
+      counted true e = one-mul (g y)
+      counted false e = rw (none y e)
+
+  -- a sum over any list is one over the records' names, each as often as it stands there
+  by-times : (l : List ℕ) → sumOf g l ≡ sumOf (λ x. times x l * g x) (named name n [])
+  unfolding sumOf times
+  by-times [] = sym (sum-same _ (λ x. 0) (named name n []) (λ x. zero-mul (g x)) ∙ sum-none (named name n []))
+  by-times (y ∷ l) =
+      ap₂ _+_ (sym (own-number y)) (by-times l)
+      ∙ sym (sum-plus (λ x. cond (eqb y x) (g x) 0) (λ x. times x l * g x) (named name n []))
+      ∙ sum-same _ _ (named name n []) (λ x. add x (eqb y x))
+    where
+      add : (x : ℕ) (t : Bool) → cond t (g x) 0 + times x l * g x ≡ (cond t 1 0 + times x l) * g x
+      add x true = omega arith
+      add x false = omega arith
+
+  -- so where each stands once, it is the sum over the records' names
+  pub sum-once : (l : List ℕ) → EachOnce name n l → sumOf g l ≡ sumOf g (named name n [])
+  sum-once l o = by-times l ∙ sum-same _ g (named name n []) (λ x. by x (seen name n x) refl)
+    where
+      by : (x : ℕ) (t : Bool) → seen name n x ≡ t → times x l * g x ≡ g x
+      by x true e = rw (o .once x e) (one-mul (g x))
+      by x false e = rw (none x e) (omega arith)

@@ -88,24 +88,24 @@ module _ (o : Outcome) {n : ℕ} (told : Length n ≡ lengthFor o) (d : List ℕ
       lent-front o (take n d) n e (rw just-room at h)
       ∙ ap gives (sym (take-append-le n e (drop n d) (omega (arith, as-long))))
 
-module _ (b : List ℕ) (account : ℕ) (bytes : AreBytes b) (small : account < 2 ^ 32) {n : ℕ} (told : Length n ≡ lengthFor (outcome b account)) (d : List ℕ) (room : 51_672 ≡ length d) where
+module _ (b : List ℕ) (account : ℕ) (bytes : AreBytes b) (small : account < 2 ^ 32) {n : ℕ} (told : Length n ≡ lengthFor (outcome b [] account)) (d : List ℕ) (room : 51_672 ≡ length d) where
   -- the array holds every statement
   pub fits : n ≤ length d
   fits =
-      let due = long-given (outcome b account) n told in
-      omega (arith, due .long, statement-short (due .bytes) (written-and-read b account (due .bytes) bytes small (due .given) .accepted))
+      let due = long-given (outcome b [] account) n told in
+      omega (arith, due .long, statement-short (due .bytes) (written-and-read b [] account (due .bytes) bytes small (due .given) .accepted))
 
-  module _ {r : Written} {e : List ℕ} (h : Lent (outcome b account) (take n d) r e) where
-    given : outcome b account ≡ gives (take n (e ++ drop n d))
-    given = front-given (outcome b account) told d fits h
+  module _ {r : Written} {e : List ℕ} (h : Lent (outcome b [] account) (take n d) r e) where
+    given : outcome b [] account ≡ gives (take n (e ++ drop n d))
+    given = front-given (outcome b [] account) told d fits h
 
     pub lies : n ≤ length (e ++ drop n d)
-    lies = rw length-append (omega (arith, as-long (outcome b account) told d fits h))
+    lies = rw length-append (omega (arith, as-long (outcome b [] account) told d fits h))
 
     pub is-statement : isStatement (take n (e ++ drop n d)) ≡ true
-    is-statement = written-and-read b account (take n (e ++ drop n d)) bytes small given .accepted
+    is-statement = written-and-read b [] account (take n (e ++ drop n d)) bytes small given .accepted
 
-    pub said-given : {t u : List ℕ} {k : ℕ} → Said t (statementText (headingAt (take n (e ++ drop n d))) (linesIn (take n (e ++ drop n d)) (headingAt (take n (e ++ drop n d)) .lines))) u k → Said t (outcomeText (outcome b account)) u k
+    pub said-given : {t u : List ℕ} {k : ℕ} → Said t (statementText (headingAt (take n (e ++ drop n d))) (linesIn (take n (e ++ drop n d)) (headingAt (take n (e ++ drop n d)) .lines))) u k → Said t (outcomeText (outcome b [] account)) u k
     unfolding outcomeText
     said-given w = rw given w
 
@@ -117,10 +117,10 @@ said-refused o a q s = rw (refused-length o _ _ (sym q ∙ a)) s
 -- ---- the input
 
 module _ (input : List ℕ) {t u : List ℕ} {e : ℕ} where
-  pub said-short : length input < 4 → Said t (outcomeText (outcome [] 0)) u e → Said t (listingOf input) u e
+  pub said-short : length input < 4 → Said t (outcomeText (outcome [] [] 0)) u e → Said t (listingOf input) u e
   unfolding listingOf
   said-short h w = rw (lt-ltb (length input) 4 h) w
 
-  pub said-long : 4 ≤ length input → (account : ℕ) → account ≡ u32At input 0 → Said t (outcomeText (outcome (partFrom 4 input) account)) u e → Said t (listingOf input) u e
+  pub said-long : 4 ≤ length input → (account : ℕ) → account ≡ u32At input 0 → Said t (outcomeText (outcome (partFrom 4 input) [] account)) u e → Said t (listingOf input) u e
   unfolding listingOf
   said-long h account q w = rw (le-ltb (length input) 4 h) (rw q at w)

@@ -1,5 +1,5 @@
 -- The listing program's text, from the bytes of its standard input. 01, Worked interval: "The listing program reads four little-endian bytes
--- of account and then a book from standard input."
+-- of account and then a book from standard input." 02, Req 04: "The listing program lends no locked book."
 use Prim.Native.Nat.{ℕ}
 use mathlib.Core.Bool.{cond}
 use mathlib.Core.List.{List, []}
@@ -16,7 +16,7 @@ unfoldable pub outcomeText : Outcome → List ℕ
 outcomeText (refuses number place) = refusalText number place
 outcomeText (gives xs) = statementText (headingAt xs) (linesIn xs (headingAt xs .lines))
 
--- "Fewer than four input bytes count as account 0 and an empty book."
+-- "Fewer than four input bytes count as account 0 and an empty book." And "An empty slice is no locked book".
 unfoldable pub listingOf : List ℕ → List ℕ
 listingOf input =
-    cond (ltb (length input) 4) (outcomeText (outcome [] 0)) (outcomeText (outcome (partFrom 4 input) (u32At input 0)))
+    cond (ltb (length input) 4) (outcomeText (outcome [] [] 0)) (outcomeText (outcome (partFrom 4 input) [] (u32At input 0)))

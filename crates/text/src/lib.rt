@@ -2,6 +2,7 @@
 // Each writer answers where its bytes end; every other byte is as it was.
 ghost use mathlib.Core.Path.{_≡_};
 ghost use mathlib.Core.Bool.{true};
+ghost use mathlib.Core.List.{[]};
 ghost use Prim.Native.Nat.{_≤_};
 ghost use lib.ListN.{length};
 ghost use Rattle.parsing.specs.Parsing.{headingAt, linesIn, isStatement};
@@ -33,23 +34,24 @@ fn room() -> [u8; 51_672]
     [0; 51_672]
 }
 
-// An account's statement from a book, of n bytes: just so many are lent, and so they are written.
+// An account's statement from a book, of n bytes: just so many are lent, and so they are written. No locked book is lent.
 fn put_settled(text: &mut [u8], account: u32, book: &[u8], n: usize) -> usize
     requires { ⌜ 114_128 ≤ length (now text) ⌝ }
-    requires { ⌜ Length n ≡ lengthFor (outcome (now book) account) ⌝ }
-    ensures { λ r. ⌜ Said (now (text .entry)) (outcomeText (outcome (now (book .entry)) account)) (now (text .exit)) r ⌝ }
+    requires { ⌜ Length n ≡ lengthFor (outcome (now book) [] account) ⌝ }
+    ensures { λ r. ⌜ Said (now (text .entry)) (outcomeText (outcome (now (book .entry)) [] account)) (now (text .exit)) r ⌝ }
 {
     let mut buffer = room();
-    let _written = settlement::statement(book, account, &mut buffer[..n]);
+    let _written = settlement::statement(book, b"", account, &mut buffer[..n]);
     put_statement(text, &buffer[..n])
 }
 
-// What is said of an account's statement from a book. Its length is asked first: what refuses the statement refuses that.
+// What is said of an account's statement from a book, where no locked book is lent. Its length is asked first: what refuses the statement refuses
+// that.
 fn put_outcome(text: &mut [u8], account: u32, book: &[u8]) -> usize
     requires { ⌜ 114_128 ≤ length (now text) ⌝ }
-    ensures { λ r. ⌜ Said (now (text .entry)) (outcomeText (outcome (now (book .entry)) account)) (now (text .exit)) r ⌝ }
+    ensures { λ r. ⌜ Said (now (text .entry)) (outcomeText (outcome (now (book .entry)) [] account)) (now (text .exit)) r ⌝ }
 {
-    match settlement::length(book, account) {
+    match settlement::length(book, b"", account) {
         Written::Length(n) => put_settled(text, account, book, n),
         Written::Refused(number, place) => printing::put_refusal(text, number, place),
     }

@@ -52,8 +52,9 @@ funded entry f g d e =
     let h = every (not (eqb (entry g .ace) 0) ∷ not (eqb (entry g .asoe) 0) ∷ []) (rw (ne-eqb f 0 d) at e) in
     record { ace = above (entry g .ace) (h .0); asoe = above (entry g .asoe) (h .1 .0) }
 
-pub funded-of : (entry : ℕ → Entry) (contract : ℕ → Contract) (n : ℕ) → firstBad (contractDivides entry contract) n ≡ Good → (k : ℕ) → k < n → (g : ℕ) → g < 5 → (factorOf (contract k .factors) g ≡ 0 → ⊥) → Funded (entry g)
+-- entry k g is region g's in the book that settles contract k
+pub funded-of : (entry : ℕ → ℕ → Entry) (contract : ℕ → Contract) (n : ℕ) → firstBad (λ k. contractDivides (entry k) contract k) n ≡ Good → (k : ℕ) → k < n → (g : ℕ) → g < 5 → (factorOf (contract k .factors) g ≡ 0 → ⊥) → Funded (entry k g)
 unfolding contractDivides
 funded-of entry contract n h k l g m d =
-    funded entry (factorOf (contract k .factors) g) g d
-    (all-each (λ g. fundedIn entry (factorOf (contract k .factors) g) g) 5 (first-each (contractDivides entry contract) n h k l) g m)
+    funded (entry k) (factorOf (contract k .factors) g) g d
+    (all-each (λ g. fundedIn (entry k) (factorOf (contract k .factors) g) g) 5 (first-each (λ k. contractDivides (entry k) contract k) n h k l) g m)

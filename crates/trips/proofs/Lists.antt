@@ -11,9 +11,9 @@ use Rattle.rules.specs.Rules.{factorOf}
 use Rattle.rules.specs.Inner.Facts.{ConstraintRule}
 use Rattle.records.specs.declared.rows.Constraint.{Constraint}
 use Rattle.records.specs.declared.rows.UnitRow.{UnitRow}
-use Rattle.totals.specs.declared.entries.Totals.{Totals}
 use Rattle.book.specs.Book.{Book}
-use Rattle.book.specs.Inner.Accepted.{Promise}
+use Rattle.book.specs.Inner.Accepted.{Sound}
+use Rattle.accounts.specs.declared.energies.OwnEnergies.{OwnEnergies}
 use Rattle.amounts.specs.Pools.{halvesOf}
 use Rattle.amounts.specs.declared.pools.Pools.{Pools}
 use Rattle.amounts.specs.declared.pools.Residual.{Residual}
@@ -45,21 +45,22 @@ module _ (r : Constraint) (h : ConstraintRule r) (f : r .id < 2 ^ 32) where
 
 -- ---- the whole book
 
-module _ (B : Book) (p : Promise B) (n : Narrow B) (own : Totals) where
-  kinds-due : EachKind Due B own
+-- whatever energies its contracts are settled by
+module _ (B L : Book) (p : Sound B) (n : Narrow B) (own : OwnEnergies) where
+  kinds-due : EachKind Due B L own
   kinds-due =
       record {
-        contingency = λ j l. contingency-due (B .constraint j) (p .sound .fields .constraints j l) (n .constraints j) _ _;
-        units = λ j l u m. unit-due (B .constraint j) (p .sound .fields .constraints j l) (n .constraints j) _ (B .unit u) (p .sound .fields .units u m .unit) (n .units u);
-        rest = λ j l. rest-due (B .constraint j) (p .sound .fields .constraints j l) (n .constraints j) _ _ _;
+        contingency = λ j l. contingency-due (B .constraint j) (p .fields .constraints j l) (n .constraints j) _ _;
+        units = λ j l u m. unit-due (B .constraint j) (p .fields .constraints j l) (n .constraints j) _ (B .unit u) (p .fields .units u m .unit) (n .units u);
+        rest = λ j l. rest-due (B .constraint j) (p .fields .constraints j l) (n .constraints j) _ _ _;
         region = λ k l g m d. (
-          ace-due (B .contract k .id) (p .sound .fields .contracts k l .id) (n .contracts k) g m (halvesOf (B .contract k .payment) (factorOf (B .contract k .factors) g)) _ _,
-          (asoe-due (B .contract k .id) (p .sound .fields .contracts k l .id) (n .contracts k) g m (halvesOf (B .contract k .payment) (factorOf (B .contract k .factors) g)) _ _, tt),
+          ace-due (B .contract k .id) (p .fields .contracts k l .id) (n .contracts k) g m (halvesOf (B .contract k .payment) (factorOf (B .contract k .factors) g)) _ _,
+          (asoe-due (B .contract k .id) (p .fields .contracts k l .id) (n .contracts k) g m (halvesOf (B .contract k .payment) (factorOf (B .contract k .factors) g)) _ _, tt),
         );
       }
 
-  pub book-due : (account : ℕ) → Each Due (bookLines B account own)
-  book-due account = each-line Due B own kinds-due account
+  pub book-due : (account : ℕ) → Each Due (bookLines B L account own)
+  book-due account = each-line Due B L own kinds-due account
 
 -- ---- under the limit
 

@@ -1,2 +1,2 @@
 pub mod Whole
-pub mod Two
+pub mod InTurn

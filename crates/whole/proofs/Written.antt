@@ -6,7 +6,7 @@ use lib.ListN.{length, length-append}
 use native.Mathlib.Omega.{arith}
 use Rattle.ground.specs.Inner.Put.{Wrote}
 use Rattle.ground.proofs.Put.{wrote-front}
-use Rattle.totals.specs.declared.entries.Totals.{Totals}
+use Rattle.accounts.specs.declared.energies.OwnEnergies.{OwnEnergies}
 use Rattle.book.specs.Book.{Book}
 use Rattle.statement.specs.Statement.{headingBytes, linesBytes, statementBytes}
 use Rattle.statement.specs.declared.Heading.{Heading}
@@ -26,8 +26,8 @@ statement-out hd ls {l} {a} {b} m w =
     }
 
 -- the header says how many lines there are, as their end tells
-pub whole-out : (B : Book) (own : Totals) (account : ℕ) {l a b : List ℕ} {e f : ℕ} → Emitted l 24 (bookLines B account own) a e → Wrote a 0 (headingBytes (headingIn account B (e / 24 - 1))) b f → Wrote l 0 (wholeOf account B own) b e
+pub whole-out : (B L : Book) (own : OwnEnergies) (account : ℕ) {l a b : List ℕ} {e f : ℕ} → Emitted l 24 (bookLines B L account own) a e → Wrote a 0 (headingBytes (headingIn account B (e / 24 - 1))) b f → Wrote l 0 (wholeOf account B L own) b e
 unfolding wholeOf
-whole-out B own account {e = e} m w =
-    let n : e / 24 - 1 ≡ length (bookLines B account own) = omega (arith, m .next) in
+whole-out B L own account {e = e} m w =
+    let n : e / 24 - 1 ≡ length (bookLines B L account own) = omega (arith, m .next) in
     rw (← n) (statement-out _ _ m w)

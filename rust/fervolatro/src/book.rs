@@ -2,7 +2,7 @@
 
 use std::collections::BTreeSet;
 
-use crate::calls;
+use crate::calls::{self, Books};
 use crate::kinds::{Mode, Regions, Service};
 use crate::refusal::Refusal;
 use crate::statement::LARGEST_STATEMENT;
@@ -10,77 +10,106 @@ use crate::statement::LARGEST_STATEMENT;
 /// The bytes of the largest book that is accepted.
 pub const LARGEST_BOOK: usize = 39_796;
 
-/// Checks a book: any bytes are either accepted or refused for one reason, the lowest
-/// number that applies, at the lowest offset where it does.
+/// Checks a book: any bytes are either accepted or refused for one reason, the first
+/// that applies, at the lowest offset where it does.
 ///
 /// ```
 /// # fn main() -> Result<(), Box<dyn std::error::Error>> {
 /// let mut book = std::fs::read("../../books/worked.book")?;
-/// fervolatro::check(&book)?;
+/// fervolatro::check(&book, None)?;
 /// book[88] = 11; // the first constraint's service
-/// let refusal = fervolatro::check(&book).unwrap_err();
+/// let refusal = fervolatro::check(&book, None).unwrap_err();
 /// assert_eq!(refusal.to_string(), "refusal 5 at 84: a field outside its rules");
 /// # Ok(())
 /// # }
 /// ```
-pub fn check(book: &[u8]) -> Result<(), Refusal> {
-    calls::check(book).into_result()
+///
+/// A book with a contract of kind 2, a test payment, wants the locked book: one of the
+/// same date and interval that keeps checks 1 to 9 by itself, of the same run or of an
+/// earlier one. No bytes at all are none. Where the book has no such contract, the locked
+/// one is not read, whatever it is.
+///
+/// ```
+/// # fn main() -> Result<(), Box<dyn std::error::Error>> {
+/// let locked = std::fs::read("../../books/worked.book")?;
+/// let mut book = locked.clone();
+/// book[20] = 1; // one contract, at the end
+/// let mut contract = [0; 36];
+/// contract[0] = 1; // its id
+/// contract[4] = 2; // its kind
+/// contract[16..20].copy_from_slice(&1_000_000_u32.to_le_bytes()); // all for NSW1
+/// book.extend(contract);
+/// fervolatro::check(&book, Some(&locked))?;
+/// let refusal = fervolatro::check(&book, None).unwrap_err();
+/// assert_eq!(refusal.reason, fervolatro::Reason::NoLocked);
+/// assert_eq!(refusal.place, 272);
+/// # Ok(())
+/// # }
+/// ```
+pub fn check(book: &[u8], locked: Option<&[u8]>) -> Result<(), Refusal> {
+    calls::check(Books::of(book, locked)).into_result()
 }
 
 /// How many bytes an account's statement has, and so how much room [`statement_into`]
-/// needs for it. 1 to 12 are looked for as a statement looks for them.
+/// needs for it. All refusals but 13 are looked for as a statement looks for them.
 ///
 /// ```
 /// # fn main() -> Result<(), Box<dyn std::error::Error>> {
 /// let book = std::fs::read("../../books/worked.book")?;
-/// let length = fervolatro::length(&book, 7)?;
+/// let length = fervolatro::length(&book, None, 7)?;
 /// // A header and twelve lines, of 24 bytes each.
 /// assert_eq!(length, 312);
 /// let mut buffer = vec![0; length];
-/// assert_eq!(fervolatro::statement_into(&book, 7, &mut buffer)?, length);
-/// let refusal = fervolatro::length(&book, 8).unwrap_err();
+/// assert_eq!(fervolatro::statement_into(&book, None, 7, &mut buffer)?, length);
+/// let refusal = fervolatro::length(&book, None, 8).unwrap_err();
 /// assert_eq!(refusal.reason, fervolatro::Reason::NoAccount);
 /// # Ok(())
 /// # }
 /// ```
-pub fn length(book: &[u8], account: u32) -> Result<usize, Refusal> {
-    let length = calls::length(book, account).into_length()?;
+pub fn length(book: &[u8], locked: Option<&[u8]>, account: u32) -> Result<usize, Refusal> {
+    let length = calls::length(Books::of(book, locked), account).into_length()?;
     assert!(length <= LARGEST_STATEMENT, "a statement of {length} bytes");
     Ok(length)
 }
 
 /// The statement of an account. Its length is asked for first, and just so much room is
-/// made.
+/// made. Date, interval and run are the book's own, also where the locked one is read.
 ///
 /// ```
 /// # fn main() -> Result<(), Box<dyn std::error::Error>> {
 /// let book = std::fs::read("../../books/worked.book")?;
-/// assert_eq!(fervolatro::statement(&book, 7)?.len(), 312);
-/// let refusal = fervolatro::statement(&book, 8).unwrap_err();
+/// assert_eq!(fervolatro::statement(&book, None, 7)?.len(), 312);
+/// let refusal = fervolatro::statement(&book, None, 8).unwrap_err();
 /// assert_eq!(refusal.reason, fervolatro::Reason::NoAccount);
 /// # Ok(())
 /// # }
 /// ```
-pub fn statement(book: &[u8], account: u32) -> Result<Vec<u8>, Refusal> {
-    let length = length(book, account)?;
+pub fn statement(book: &[u8], locked: Option<&[u8]>, account: u32) -> Result<Vec<u8>, Refusal> {
+    let length = length(book, locked, account)?;
     let mut statement = vec![0; length];
-    let written = statement_into(book, account, &mut statement);
+    let written = statement_into(book, locked, account, &mut statement);
     assert_eq!(written, Ok(length), "a statement has the length asked for");
     Ok(statement)
 }
 
 /// Writes an account's statement at the front of the buffer and gives its length, which
 /// [`length`] tells beforehand; later bytes stay. A refusal leaves every byte of the
-/// buffer. 1 to 13 are looked for in their order.
+/// buffer. 13 is looked for last.
 ///
 /// ```
 /// let mut buffer = [7; 312];
-/// let refusal = fervolatro::statement_into(b"RCB", 1, &mut buffer).unwrap_err();
+/// let refusal = fervolatro::statement_into(b"RCB", None, 1, &mut buffer).unwrap_err();
 /// assert_eq!(refusal.number(), 1);
 /// assert_eq!(buffer, [7; 312]);
 /// ```
-pub fn statement_into(book: &[u8], account: u32, buffer: &mut [u8]) -> Result<usize, Refusal> {
-    calls::statement(book, account, buffer).into_result(buffer.len())
+pub fn statement_into(
+    book: &[u8],
+    locked: Option<&[u8]>,
+    account: u32,
+    buffer: &mut [u8],
+) -> Result<usize, Refusal> {
+    let books = Books::of(book, locked);
+    calls::statement(books, account, buffer).into_result(buffer.len())
 }
 
 /// The balance of a pool. Amount and sum, in ten-thousandths of a dollar, are each
@@ -95,37 +124,41 @@ pub struct Balance {
     pub sum: i64,
 }
 
-/// Gives the balance of a pool, by its number in the order of [`pools`].
+/// Gives the balance of a pool, by its number in the order of [`pools`]. Its lines are
+/// those of all [`accounts`].
 ///
 /// ```
 /// # fn main() -> Result<(), Box<dyn std::error::Error>> {
 /// let book = std::fs::read("../../books/worked.book")?;
-/// let fpp = fervolatro::balance(&book, 0)?;
+/// let fpp = fervolatro::balance(&book, None, 0)?;
 /// assert_eq!((fpp.amount, fpp.lines, fpp.sum), (0, 7, 1));
-/// let refusal = fervolatro::balance(&book, 3).unwrap_err();
+/// let refusal = fervolatro::balance(&book, None, 3).unwrap_err();
 /// assert_eq!(refusal.reason, fervolatro::Reason::PastEnd);
 /// # Ok(())
 /// # }
 /// ```
-pub fn balance(book: &[u8], pool: u64) -> Result<Balance, Refusal> {
-    calls::balance(book, pool).into_result()
+pub fn balance(book: &[u8], locked: Option<&[u8]>, pool: u64) -> Result<Balance, Refusal> {
+    calls::balance(Books::of(book, locked), pool).into_result()
 }
 
-/// The accounts of a book: those that a unit row or an energy row names, rising, each
-/// once. The book is checked first.
+/// The accounts: those that a unit row or an energy row names, rising, each once. The
+/// rows are the book's, and those of the locked book where it is read, which is where the
+/// book has a contract of kind 2. The books are checked first.
 ///
 /// ```
 /// # fn main() -> Result<(), Box<dyn std::error::Error>> {
 /// let book = std::fs::read("../../books/worked.book")?;
-/// assert_eq!(fervolatro::accounts(&book)?, [7, 9]);
+/// assert_eq!(fervolatro::accounts(&book, None)?, [7, 9]);
 /// # Ok(())
 /// # }
 /// ```
-pub fn accounts(book: &[u8]) -> Result<Vec<u32>, Refusal> {
-    let sections = Sections::of(book)?;
-    let units = sections.units.iter().map(|row| u32_at(row, 8));
-    let energies = sections.energies.iter().map(|row| u32_at(row, 0));
-    let accounts: BTreeSet<u32> = units.chain(energies).collect();
+pub fn accounts(book: &[u8], locked: Option<&[u8]>) -> Result<Vec<u32>, Refusal> {
+    check(book, locked)?;
+    let sections = Sections::of(book);
+    let mut accounts: BTreeSet<u32> = sections.accounts().collect();
+    if let Some(locked) = locked.filter(|_| sections.has_test()) {
+        accounts.extend(Sections::of(locked).accounts());
+    }
     Ok(accounts.into_iter().collect())
 }
 
@@ -178,22 +211,23 @@ pub enum PoolKind {
 
 /// The pools of a book, by their numbers: one for a contingency constraint, three for a
 /// factored one, one for a default one, one for a contract, in the order of the book.
-/// The book is checked first.
+/// The books are checked first.
 ///
 /// ```
 /// # fn main() -> Result<(), Box<dyn std::error::Error>> {
 /// use fervolatro::PoolKind;
 ///
 /// let book = std::fs::read("../../books/worked.book")?;
-/// let pools = fervolatro::pools(&book)?;
+/// let pools = fervolatro::pools(&book, None)?;
 /// assert!(pools.iter().all(|pool| pool.source.id() == 500));
 /// let kinds: Vec<PoolKind> = pools.iter().map(|pool| pool.kind).collect();
 /// assert_eq!(kinds, [PoolKind::Fpp, PoolKind::Used, PoolKind::Unused]);
 /// # Ok(())
 /// # }
 /// ```
-pub fn pools(book: &[u8]) -> Result<Vec<Pool>, Refusal> {
-    let sections = Sections::of(book)?;
+pub fn pools(book: &[u8], locked: Option<&[u8]>) -> Result<Vec<Pool>, Refusal> {
+    check(book, locked)?;
+    let sections = Sections::of(book);
     let constraints = sections.constraints.iter().flat_map(|record| {
         let (source, kinds) = constraint_pools(record);
         kinds.iter().map(move |&kind| (source, kind))
@@ -228,7 +262,7 @@ fn constraint_pools(record: &[u8; 40]) -> (Source, &'static [PoolKind]) {
     (source, kinds)
 }
 
-/// The records of an accepted book, where they stand.
+/// The records of a book that keeps checks 1 to 4, where they stand.
 struct Sections<'b> {
     constraints: &'b [[u8; 40]],
     units: &'b [[u8; 20]],
@@ -237,17 +271,28 @@ struct Sections<'b> {
 }
 
 impl<'b> Sections<'b> {
-    fn of(book: &'b [u8]) -> Result<Self, Refusal> {
-        check(book)?;
+    fn of(book: &'b [u8]) -> Self {
         let count_at = |at: usize| usize::from(u16::from_le_bytes([book[at], book[at + 1]]));
         // Behind the header and the region entries.
         let mut rest = &book[84..];
-        Ok(Sections {
+        Sections {
             constraints: take(&mut rest, count_at(14)),
             units: take(&mut rest, count_at(16)),
             energies: take(&mut rest, count_at(18)),
             contracts: take(&mut rest, count_at(20)),
-        })
+        }
+    }
+
+    /// The accounts that the rows name, any number of times.
+    fn accounts(&self) -> impl Iterator<Item = u32> + use<'b> {
+        let units = self.units.iter().map(|row| u32_at(row, 8));
+        let energies = self.energies.iter().map(|row| u32_at(row, 0));
+        units.chain(energies)
+    }
+
+    /// Whether there is a contract of kind 2.
+    fn has_test(&self) -> bool {
+        self.contracts.iter().any(|record| record[4] == 2)
     }
 }
 

@@ -4,7 +4,7 @@
 //! FERVOLATRO_BRIDGE is set, the program that it names is started instead, with no
 //! arguments.
 
-use crate::calls::{Cost, Entry, Heading, Pool, Verdict, Written};
+use crate::calls::{Books, Cost, Entry, Heading, Pool, Verdict, Written};
 use std::cell::RefCell;
 use std::env;
 use std::io::{Read, Write};
@@ -74,6 +74,13 @@ fn program() -> Command {
     command
 }
 
+/// A request on books: its letter, and both slices.
+fn request_on(call: u8, Books { book, locked }: Books) -> Vec<u8> {
+    let mut request = request(call, book);
+    put_slice(&mut request, locked);
+    request
+}
+
 /// A request: its letter, and the slice that the call reads.
 fn request(call: u8, slice: &[u8]) -> Vec<u8> {
     let mut request = vec![call];
@@ -116,25 +123,25 @@ fn written([refusal, place, length]: [u64; 3]) -> Written {
     }
 }
 
-pub(crate) fn check(book: &[u8]) -> Verdict {
-    let [refusal, place] = ask(&request(b'c', book));
+pub(crate) fn check(books: Books) -> Verdict {
+    let [refusal, place] = ask(&request_on(b'c', books));
     Verdict { refusal, place }
 }
 
-pub(crate) fn length(book: &[u8], account: u32) -> Written {
-    let mut request = request(b'n', book);
+pub(crate) fn length(books: Books, account: u32) -> Written {
+    let mut request = request_on(b'n', books);
     request.extend_from_slice(&account.to_le_bytes());
     written(ask(&request))
 }
 
-pub(crate) fn statement(book: &[u8], account: u32, buffer: &mut [u8]) -> Written {
-    let mut request = request(b's', book);
+pub(crate) fn statement(books: Books, account: u32, buffer: &mut [u8]) -> Written {
+    let mut request = request_on(b's', books);
     request.extend_from_slice(&account.to_le_bytes());
     ask_to_write(request, buffer)
 }
 
-pub(crate) fn balance(book: &[u8], pool: u64) -> Pool {
-    let mut request = request(b'b', book);
+pub(crate) fn balance(books: Books, pool: u64) -> Pool {
+    let mut request = request_on(b'b', books);
     request.extend_from_slice(&pool.to_le_bytes());
     let [refusal, place, amount, lines, sum] = ask(&request);
     Pool {

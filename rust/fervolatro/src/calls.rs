@@ -3,6 +3,21 @@
 
 use crate::refusal::Refusal;
 
+/// What a call on a book reads.
+#[derive(Clone, Copy)]
+pub(crate) struct Books<'b> {
+    pub(crate) book: &'b [u8],
+    /// Empty where no locked book is lent.
+    pub(crate) locked: &'b [u8],
+}
+
+impl<'b> Books<'b> {
+    pub(crate) fn of(book: &'b [u8], locked: Option<&'b [u8]>) -> Self {
+        let locked = locked.unwrap_or_default();
+        Books { book, locked }
+    }
+}
+
 /// `fervolatro_verdict` of `include/fervolatro.h`.
 #[repr(C)]
 pub(crate) struct Verdict {
@@ -112,22 +127,41 @@ pub(crate) use linked::{
 
 #[cfg(any(target_arch = "x86_64", feature = "native"))]
 mod linked {
-    use super::{Cost, Entry, Heading, Pool, Verdict, Written};
+    use super::{Books, Cost, Entry, Heading, Pool, Verdict, Written};
 
     extern "C" {
-        fn fervolatro_check(book: *const u8, book_len: usize) -> Verdict;
+        fn fervolatro_check(
+            book: *const u8,
+            book_len: usize,
+            locked: *const u8,
+            locked_len: usize,
+        ) -> Verdict;
 
-        fn fervolatro_length(book: *const u8, book_len: usize, account: u32) -> Written;
+        fn fervolatro_length(
+            book: *const u8,
+            book_len: usize,
+            locked: *const u8,
+            locked_len: usize,
+            account: u32,
+        ) -> Written;
 
         fn fervolatro_statement(
             book: *const u8,
             book_len: usize,
+            locked: *const u8,
+            locked_len: usize,
             account: u32,
             buffer: *mut u8,
             buffer_len: usize,
         ) -> Written;
 
-        fn fervolatro_balance(book: *const u8, book_len: usize, pool: u64) -> Pool;
+        fn fervolatro_balance(
+            book: *const u8,
+            book_len: usize,
+            locked: *const u8,
+            locked_len: usize,
+            pool: u64,
+        ) -> Pool;
 
         fn fervolatro_header(statement: *const u8, statement_len: usize) -> Heading;
 
@@ -152,24 +186,35 @@ mod linked {
         fn fervolatro_base_cost(rows: *const u8, rows_len: usize, id: u32, service: u64) -> Cost;
     }
 
-    pub(crate) fn check(book: &[u8]) -> Verdict {
-        // SAFETY: pointer and length are those of one slice, which nothing changes
+    pub(crate) fn check(Books { book, locked }: Books) -> Verdict {
+        // SAFETY: each pointer and length are those of one slice, which nothing changes
         // while it is lent; the library reads only and keeps nothing.
-        unsafe { fervolatro_check(book.as_ptr(), book.len()) }
+        unsafe { fervolatro_check(book.as_ptr(), book.len(), locked.as_ptr(), locked.len()) }
     }
 
-    pub(crate) fn length(book: &[u8], account: u32) -> Written {
+    pub(crate) fn length(Books { book, locked }: Books, account: u32) -> Written {
         // SAFETY: as for a check.
-        unsafe { fervolatro_length(book.as_ptr(), book.len(), account) }
+        unsafe {
+            fervolatro_length(
+                book.as_ptr(),
+                book.len(),
+                locked.as_ptr(),
+                locked.len(),
+                account,
+            )
+        }
     }
 
-    pub(crate) fn statement(book: &[u8], account: u32, buffer: &mut [u8]) -> Written {
+    pub(crate) fn statement(books: Books, account: u32, buffer: &mut [u8]) -> Written {
+        let Books { book, locked } = books;
         // SAFETY: as for a check; the buffer is lent to this call alone, so it does not
-        // overlap the book, and the library writes within its length.
+        // overlap either book, and the library writes within its length.
         unsafe {
             fervolatro_statement(
                 book.as_ptr(),
                 book.len(),
+                locked.as_ptr(),
+                locked.len(),
                 account,
                 buffer.as_mut_ptr(),
                 buffer.len(),
@@ -177,9 +222,17 @@ mod linked {
         }
     }
 
-    pub(crate) fn balance(book: &[u8], pool: u64) -> Pool {
+    pub(crate) fn balance(Books { book, locked }: Books, pool: u64) -> Pool {
         // SAFETY: as for a check.
-        unsafe { fervolatro_balance(book.as_ptr(), book.len(), pool) }
+        unsafe {
+            fervolatro_balance(
+                book.as_ptr(),
+                book.len(),
+                locked.as_ptr(),
+                locked.len(),
+                pool,
+            )
+        }
     }
 
     pub(crate) fn header(statement: &[u8]) -> Heading {

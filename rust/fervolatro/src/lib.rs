@@ -5,6 +5,11 @@
 //! their layout and the rules. Every call answers any bytes, and is proved to answer
 //! what the rules say.
 //!
+//! Every call on a book takes the locked book as well, which contracts of kind 2 (test
+//! payments) are shared by: `Some` of its bytes, or `None`. It is read where the book has
+//! such a contract, and then wanted; where it has none, whatever is lent counts for
+//! nothing.
+//!
 //! - [`check`] says whether a book is accepted, and if not, why and where.
 //! - [`statement()`] gives an account's statement, [`length`] how many bytes it has,
 //!   [`accounts`] the accounts there are.
@@ -20,8 +25,8 @@
 //! ```
 //! # fn main() -> Result<(), Box<dyn std::error::Error>> {
 //! let book = std::fs::read("../../books/worked.book")?;
-//! for account in fervolatro::accounts(&book)? {
-//!     let statement = fervolatro::statement(&book, account)?;
+//! for account in fervolatro::accounts(&book, None)? {
+//!     let statement = fervolatro::statement(&book, None, account)?;
 //!     for line in &fervolatro::Statement::read(&statement)? {
 //!         println!("{account} {} {} {}", line.id, line.part, line.amount);
 //!     }

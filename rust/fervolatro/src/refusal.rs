@@ -6,10 +6,12 @@ use std::fmt;
 use crate::numbered::numbered;
 
 numbered! {
-    /// The reasons for a refusal, as the rules number them: 1 to 10 come from every
-    /// call on a book, 11 and 12 from asking for a statement or for its length, 13 from
-    /// writing it, 15 from asking for a balance; 13 to 15 from a call on a statement; 16
-    /// from a call on dispatch rows. The lowest that applies is given.
+    /// The reasons for a refusal, as the rules number them: 1 to 10, 17 and 18 come from
+    /// every call on a book, 11 and 12 from asking for a statement or for its length, 13
+    /// from writing it, 15 from asking for a balance; 13 to 15 from a call on a statement;
+    /// 16 from a call on dispatch rows. The first that applies is given: 17 and 18 are
+    /// looked for after 9 and before 10, the others in the order of their numbers, but 14
+    /// before 13.
     Reason {
         Short = 1, "book shorter than 84 bytes";
         Mark = 2, "mark, version or a reserved header byte wrong";
@@ -21,26 +23,28 @@ numbered! {
         Factors = 8, "factor sums fail";
         RegionEntry = 9, "a region entry differs from its rows' sums";
         ZeroTotal = 10, "a total to divide by is zero";
-        NoAccount = 11, "no unit row and no energy row names the account";
+        NoAccount = 11, "no book read names the account";
         Limit = 12, "a line would pass 50,000,000,000 either way";
         Buffer = 13, "lent buffer shorter than the statement";
         NoStatement = 14, "bytes are not a statement";
         PastEnd = 15, "pool or line number past the end";
         DispatchRow = 16, "a dispatch row that is cut short, out of range, not rising, has a product above 600,000,000,000 or takes a sum past 50,000,000,000";
+        NoLocked = 17, "a kind 2 contract has no locked book";
+        Locked = 18, "the locked book fails one of checks 1 to 9, has another date or interval, or a later run";
     }
 }
 
 impl Reason {
     /// Whether it is one record's or one row's, so that its place is to be told.
     const fn has_place(self) -> bool {
-        matches!(self.number(), 5..=10 | 16)
+        matches!(self.number(), 5..=10 | 16..=18)
     }
 }
 
 /// A refusal: why, and at which record or row.
 ///
 /// ```
-/// let refusal = fervolatro::check(b"RCB").unwrap_err();
+/// let refusal = fervolatro::check(b"RCB", None).unwrap_err();
 /// assert_eq!(refusal.reason, fervolatro::Reason::Short);
 /// assert_eq!(refusal.number(), 1);
 /// assert_eq!(refusal.to_string(), "refusal 1: book shorter than 84 bytes");
@@ -50,8 +54,9 @@ pub struct Refusal {
     /// Why.
     pub reason: Reason,
     /// Where the record at fault starts, in bytes from the start of the book, or the
-    /// dispatch row, in bytes from the start of the rows. 0 where it is no record's and
-    /// no row's, as with every reason but 5 to 10 and 16.
+    /// dispatch row, in bytes from the start of the rows. With 17 and 18 the record is
+    /// the book's first contract of kind 2. 0 where it is no record's and no row's, as
+    /// with every reason but 5 to 10 and 16 to 18.
     pub place: usize,
 }
 
@@ -65,7 +70,7 @@ impl Refusal {
     pub(crate) fn of(number: u64, place: u64) -> Self {
         let reason = u8::try_from(number).ok().and_then(Reason::from_number);
         Refusal {
-            reason: reason.expect("refusals are numbered 1 to 16"),
+            reason: reason.expect("refusals are numbered 1 to 18"),
             place: usize::try_from(place).expect("a place lies within the lent bytes"),
         }
     }
@@ -88,7 +93,7 @@ mod tests {
     use super::{Reason, Refusal};
 
     /// The meaning of every number, as the rules' table has it.
-    const SAID: [&str; 16] = [
+    const SAID: [&str; 18] = [
         "refusal 1: book shorter than 84 bytes",
         "refusal 2: mark, version or a reserved header byte wrong",
         "refusal 3: interval, date, run or a count out of its range",
@@ -100,7 +105,7 @@ mod tests {
         "refusal 8 at 84: factor sums fail",
         "refusal 9 at 84: a region entry differs from its rows' sums",
         "refusal 10 at 84: a total to divide by is zero",
-        "refusal 11: no unit row and no energy row names the account",
+        "refusal 11: no book read names the account",
         "refusal 12: a line would pass 50,000,000,000 either way",
         "refusal 13: lent buffer shorter than the statement",
         "refusal 14: bytes are not a statement",
@@ -108,6 +113,9 @@ mod tests {
         // The first row stands at the start of the rows.
         "refusal 16 at 0: a dispatch row that is cut short, out of range, not rising, has a product \
          above 600,000,000,000 or takes a sum past 50,000,000,000",
+        "refusal 17 at 84: a kind 2 contract has no locked book",
+        "refusal 18 at 84: the locked book fails one of checks 1 to 9, has another date or interval, \
+         or a later run",
     ];
 
     #[test]
@@ -122,9 +130,9 @@ mod tests {
     }
 
     #[test]
-    #[should_panic(expected = "refusals are numbered 1 to 16")]
+    #[should_panic(expected = "refusals are numbered 1 to 18")]
     fn a_number_that_no_refusal_has_is_not_passed_over() {
-        Refusal::of(17, 0);
+        Refusal::of(19, 0);
     }
 
     /// What `?` and `Box<dyn Error>` ask for.

@@ -54,7 +54,7 @@ type Numbers = [[u8; 8]; 5];
 /// use fervolatro::{Part, Statement};
 ///
 /// let book = std::fs::read("../../books/worked.book")?;
-/// let statement = Statement::read(&fervolatro::statement(&book, 7)?)?;
+/// let statement = Statement::read(&fervolatro::statement(&book, None, 7)?)?;
 /// assert_eq!(statement.heading().account, 7);
 /// assert_eq!(statement.lines().len(), 12);
 /// let fpp = statement.lines().filter(|line| line.part == Part::UnitFpp);
@@ -146,7 +146,7 @@ pub fn header(statement: &[u8]) -> Result<Heading, Refusal> {
 /// ```
 /// # fn main() -> Result<(), Box<dyn std::error::Error>> {
 /// let book = std::fs::read("../../books/worked.book")?;
-/// let statement = fervolatro::statement(&book, 7)?;
+/// let statement = fervolatro::statement(&book, None, 7)?;
 /// let line = fervolatro::line(&statement, 0)?;
 /// assert_eq!((line.unit, line.amount), (Some(1), 591_300));
 /// let refusal = fervolatro::line(&statement, 12).unwrap_err();
@@ -166,7 +166,7 @@ pub fn line(statement: &[u8], index: u64) -> Result<Line, Refusal> {
 /// ```
 /// # fn main() -> Result<(), Box<dyn std::error::Error>> {
 /// let book = std::fs::read("../../books/worked.book")?;
-/// let statement = fervolatro::statement(&book, 7)?;
+/// let statement = fervolatro::statement(&book, None, 7)?;
 /// let mut buffer = [7; 488];
 /// assert_eq!(fervolatro::lines_into(&statement, &mut buffer)?, 480);
 /// assert_eq!(buffer[32..40], 591_300_i64.to_le_bytes());
@@ -184,7 +184,7 @@ pub fn lines_into(statement: &[u8], buffer: &mut [u8]) -> Result<usize, Refusal>
 /// ```
 /// # fn main() -> Result<(), Box<dyn std::error::Error>> {
 /// let book = std::fs::read("../../books/worked.book")?;
-/// let statement = fervolatro::statement(&book, 7)?;
+/// let statement = fervolatro::statement(&book, None, 7)?;
 /// assert_eq!(fervolatro::rewrite(&statement)?, statement);
 /// # Ok(())
 /// # }

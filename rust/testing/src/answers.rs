@@ -8,7 +8,8 @@ pub use fervolatro::{Balance, Heading};
 /// Why a call is refused.
 #[derive(Clone, Copy, Debug, PartialEq, Eq)]
 pub struct Refusal {
-    /// The number of the refusal as in the scope document's table; 16 of a dispatch row.
+    /// The number of the refusal as in the scope document's table; 16 of a dispatch row,
+    /// 17 and 18 of the locked book.
     pub number: u8,
     /// The offset of the record or the row at fault, or 0 where the number has none.
     pub place: usize,

@@ -3,38 +3,55 @@
 use fervolatro::PoolKind;
 
 use crate::reference::Kind;
-use crate::{Balance, Entry, Heading, Refusal};
+use crate::{Balance, Books, Entry, Heading, Refusal};
 
-pub fn check(book: &[u8]) -> Result<(), Refusal> {
-    fervolatro::check(book).map_err(plain)
+pub fn check<'b>(books: impl Into<Books<'b>>) -> Result<(), Refusal> {
+    let (book, locked) = lent(books);
+    fervolatro::check(book, locked).map_err(plain)
 }
 
-pub fn length(book: &[u8], account: u32) -> Result<usize, Refusal> {
-    fervolatro::length(book, account).map_err(plain)
+pub fn length<'b>(books: impl Into<Books<'b>>, account: u32) -> Result<usize, Refusal> {
+    let (book, locked) = lent(books);
+    fervolatro::length(book, locked, account).map_err(plain)
 }
 
-pub fn statement(book: &[u8], account: u32, buffer: &mut [u8]) -> Result<usize, Refusal> {
-    fervolatro::statement_into(book, account, buffer).map_err(plain)
+pub fn statement<'b>(
+    books: impl Into<Books<'b>>,
+    account: u32,
+    buffer: &mut [u8],
+) -> Result<usize, Refusal> {
+    let (book, locked) = lent(books);
+    fervolatro::statement_into(book, locked, account, buffer).map_err(plain)
 }
 
-pub fn whole_statement(book: &[u8], account: u32) -> Result<Vec<u8>, Refusal> {
-    fervolatro::statement(book, account).map_err(plain)
+pub fn whole_statement<'b>(books: impl Into<Books<'b>>, account: u32) -> Result<Vec<u8>, Refusal> {
+    let (book, locked) = lent(books);
+    fervolatro::statement(book, locked, account).map_err(plain)
 }
 
-pub fn balance(book: &[u8], pool: u64) -> Result<Balance, Refusal> {
-    fervolatro::balance(book, pool).map_err(plain)
+pub fn balance<'b>(books: impl Into<Books<'b>>, pool: u64) -> Result<Balance, Refusal> {
+    let (book, locked) = lent(books);
+    fervolatro::balance(book, locked, pool).map_err(plain)
 }
 
-pub fn accounts(book: &[u8]) -> Result<Vec<u32>, Refusal> {
-    fervolatro::accounts(book).map_err(plain)
+pub fn accounts<'b>(books: impl Into<Books<'b>>) -> Result<Vec<u32>, Refusal> {
+    let (book, locked) = lent(books);
+    fervolatro::accounts(book, locked).map_err(plain)
 }
 
-pub fn pools_by_number(book: &[u8]) -> Result<Vec<(u32, Kind)>, Refusal> {
-    let pools = fervolatro::pools(book).map_err(plain)?;
+pub fn pools_by_number<'b>(books: impl Into<Books<'b>>) -> Result<Vec<(u32, Kind)>, Refusal> {
+    let (book, locked) = lent(books);
+    let pools = fervolatro::pools(book, locked).map_err(plain)?;
     let numbers = pools.iter().map(|pool| pool.number);
     assert!(numbers.eq(0..pools.len() as u64), "{pools:?}");
     let listed = pools.iter().map(|pool| (pool.source.id(), kind(pool.kind)));
     Ok(listed.collect())
+}
+
+/// The books as the package for users takes them.
+fn lent<'b>(books: impl Into<Books<'b>>) -> (&'b [u8], Option<&'b [u8]>) {
+    let Books { book, locked } = books.into();
+    (book, (!locked.is_empty()).then_some(locked))
 }
 
 pub fn header(statement: &[u8]) -> Result<Heading, Refusal> {

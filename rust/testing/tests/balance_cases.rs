@@ -5,12 +5,14 @@
 //! A pool closes: in size, amount plus sum has at most as many halves as the pool
 //! has lines, and as many more as its kind allows. That number stands with each
 //! pool here.
+//!
+//! Each book is lent as its own locked book; `locked_cases.rs` has balances over two.
 
 use fervolatro_testing::book::Book;
 use fervolatro_testing::requests::worked::{
     book_of, constraint, contract, empty_book, energy_row, small_halves_book, unit_row, worked_book,
 };
-use fervolatro_testing::{library, reference, Balance, Refusal};
+use fervolatro_testing::{library, reference, Balance, Books, Refusal};
 
 /// What a pool has to answer, and how many halves it may leave over beyond one per
 /// line.
@@ -44,8 +46,9 @@ const fn contract_over(regions: u64, amount: i64, lines: u64, sum: i64) -> Expec
 /// Asks both, which have to agree.
 fn balance(book: &Book, pool: u64) -> Result<Balance, Refusal> {
     let bytes = book.encode();
-    let library = library::balance(&bytes, pool);
-    assert_eq!(library, reference::balance(&bytes, pool), "pool {pool}");
+    let books = Books::of(&bytes, &bytes);
+    let library = library::balance(books, pool);
+    assert_eq!(library, reference::balance(books, pool), "pool {pool}");
     library
 }
 

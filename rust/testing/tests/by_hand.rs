@@ -4,6 +4,9 @@
 //! field a line, and every expected number has its sum beside it. So it shows that the
 //! page is enough to make a book and to know its statements and balances beforehand.
 //!
+//! Its contract is a test payment and wants a locked book: it is lent as its own, so that
+//! the payment is shared by the energies that stand there.
+//!
 //! The pools of constraint 1,003, which many of the sums start from:
 //!
 //! - FPP: price 1,139 x rcr 2,765,308 = 3,149,685,812; / 120 = 26,247,381 and 92 over,
@@ -160,6 +163,11 @@ fn exchange(book: &mut [u8], first: usize, second: usize, length: usize) {
     }
 }
 
+/// What a book is answered, with the book by hand as the locked one.
+fn check(changed: &[u8]) -> Result<(), Refusal> {
+    fervolatro::check(changed, Some(&book()))
+}
+
 /// What a check answers that refuses.
 fn refused(reason: Reason, place: usize) -> Result<(), Refusal> {
     Err(Refusal { reason, place })
@@ -179,8 +187,10 @@ fn line(&(id, part, regions, unit, amount): &Listed) -> Line {
 /// Compares an account's statement with the lines worked by hand, header included.
 fn compare_statement(account: u32, listed: &[Listed]) {
     let length = 24 + 24 * listed.len();
-    assert_eq!(fervolatro::length(&book(), account), Ok(length));
-    let statement = fervolatro::statement(&book(), account).expect("settled");
+    let (book, locked) = (book(), book());
+    let asked = fervolatro::length(&book, Some(&locked), account);
+    assert_eq!(asked, Ok(length));
+    let statement = fervolatro::statement(&book, Some(&locked), account).expect("settled");
     assert_eq!(statement.len(), length);
     let heading = Heading {
         account,
@@ -203,7 +213,14 @@ fn compare_statement(account: u32, listed: &[Listed]) {
 #[test]
 fn the_book_is_accepted() {
     assert_eq!(book().len(), 400);
-    assert_eq!(fervolatro::check(&book()), Ok(()));
+    assert_eq!(check(&book()), Ok(()));
+}
+
+/// The contract stands at 364.
+#[test]
+fn the_book_is_refused_by_itself() {
+    let given = fervolatro::check(&book(), None);
+    assert_eq!(given, refused(Reason::NoLocked, 364));
 }
 
 #[test]
@@ -220,23 +237,22 @@ fn an_account_with_energy_only_has_its_lines() {
 fn every_pool_has_its_balance_and_no_more_pools_are_there() {
     for (pool, (amount, lines, sum)) in (0..).zip(POOLS) {
         let balance = Balance { amount, lines, sum };
-        assert_eq!(
-            fervolatro::balance(&book(), pool),
-            Ok(balance),
-            "pool {pool}"
-        );
+        let given = fervolatro::balance(&book(), Some(&book()), pool);
+        assert_eq!(given, Ok(balance), "pool {pool}");
     }
     let past = Refusal {
         reason: Reason::PastEnd,
         place: 0,
     };
-    assert_eq!(fervolatro::balance(&book(), 5), Err(past));
+    let given = fervolatro::balance(&book(), Some(&book()), 5);
+    assert_eq!(given, Err(past));
 }
 
 /// Accounts 12 and 305 and 70,001 have energy; the unit rows name 12 and 70,001.
 #[test]
 fn the_accounts_are_listed() {
-    assert_eq!(fervolatro::accounts(&book()), Ok(vec![12, 305, 70_001]));
+    let accounts = fervolatro::accounts(&book(), Some(&book()));
+    assert_eq!(accounts, Ok(vec![12, 305, 70_001]));
 }
 
 /// Constraint 41: service 4, mask 6, mode 0. Constraint 1,003: service 10, mask 20,
@@ -255,7 +271,7 @@ fn the_pools_are_listed() {
         regions: Regions::from_iter([Region::Sa1, Region::Vic1]),
         mode: Mode::Factored,
     };
-    let pools = fervolatro::pools(&book()).expect("the book is accepted");
+    let pools = fervolatro::pools(&book(), Some(&book())).expect("the book is accepted");
     let listed = pools
         .iter()
         .map(|pool| (pool.number, pool.source, pool.kind));
@@ -273,17 +289,14 @@ fn the_pools_are_listed() {
 #[test]
 fn a_default_factor_one_off_fails_the_sums_of_its_constraint() {
     // Unit 65,541's dcf is -91,233 for -91,234: one more is 9F for 9E.
-    assert_eq!(
-        fervolatro::check(&changed(240, &[0x9F])),
-        refused(Reason::Factors, 124)
-    );
+    assert_eq!(check(&changed(240, &[0x9F])), refused(Reason::Factors, 124));
 }
 
 #[test]
 fn a_region_entry_one_off_differs_from_its_rows() {
     // SA1's asoe is 49,911 for 49,910; its entry starts at 48.
     assert_eq!(
-        fervolatro::check(&changed(52, &[0xF7])),
+        check(&changed(52, &[0xF7])),
         refused(Reason::RegionEntry, 48)
     );
 }
@@ -293,7 +306,7 @@ fn a_region_entry_one_off_differs_from_its_rows() {
 fn exchanged_unit_rows_do_not_rise() {
     let mut book = book();
     exchange(&mut book, 164, 184, 20);
-    assert_eq!(fervolatro::check(&book), refused(Reason::Order, 184));
+    assert_eq!(check(&book), refused(Reason::Order, 184));
 }
 
 /// Their product is the same either way: only their ranges tell price from RCR.
@@ -301,7 +314,7 @@ fn exchanged_unit_rows_do_not_rise() {
 fn exchanged_price_and_rcr_are_out_of_range() {
     let mut book = book();
     exchange(&mut book, 140, 144, 4);
-    assert_eq!(fervolatro::check(&book), refused(Reason::Field, 124));
+    assert_eq!(check(&book), refused(Reason::Field, 124));
 }
 
 /// A lower number goes before a lower offset.
@@ -310,7 +323,7 @@ fn a_benefit_factor_one_off_is_refused_before_exchanged_rows() {
     // SA1's factor is 645,001 for 645,000.
     let mut book = changed(388, &[0x89]);
     exchange(&mut book, 164, 184, 20);
-    assert_eq!(fervolatro::check(&book), refused(Reason::Field, 364));
+    assert_eq!(check(&book), refused(Reason::Field, 364));
 }
 
 #[test]
@@ -318,7 +331,7 @@ fn a_unit_row_may_not_name_the_contingency_constraint() {
     // 41 for 1,003, and the pair (41, 801) still stands below (1,003, 802). The factor
     // sums of 1,003 fail too, but that is 8.
     let book = changed(164, &[0x29, 0x00]);
-    assert_eq!(fervolatro::check(&book), refused(Reason::NoConstraint, 164));
+    assert_eq!(check(&book), refused(Reason::NoConstraint, 164));
 }
 
 #[test]
@@ -326,5 +339,5 @@ fn a_contract_may_not_benefit_a_region_without_energy() {
     // SA1's factor of 645,000 goes to TAS1, which has no row.
     let mut book = book();
     exchange(&mut book, 388, 392, 4);
-    assert_eq!(fervolatro::check(&book), refused(Reason::ZeroTotal, 364));
+    assert_eq!(check(&book), refused(Reason::ZeroTotal, 364));
 }

@@ -4,13 +4,14 @@
 //! Two books are changed, one thing at a time. In the worked book, of 272 bytes,
 //! the entries stand at 24, 36, 48, 60 and 72, the constraint at 84, the unit
 //! rows at 124, 144, 164, 184 and 204, the energy rows at 224 and 248. The mixed
-//! book, below, has records of every kind.
+//! book, below, has records of every kind. Before the change each is lent as the locked
+//! book, for the test contract of the mixed book; `locked_cases.rs` has the others.
 
 use std::fs;
 
 use fervolatro_testing::book::{Book, Constraint, Contract};
 use fervolatro_testing::requests::worked::{empty_book, energy_row, unit_row, worked_book};
-use fervolatro_testing::{in_repository, library, reference, Refusal};
+use fervolatro_testing::{in_repository, library, reference, Books, Refusal};
 
 /// The number and the place of an answer. As for the library, 0 is acceptance.
 type Answer = (u8, usize);
@@ -96,10 +97,11 @@ fn books_get_the_answers_worked_out_by_hand() {
         CHECK_10,
     ];
     for case in tables.into_iter().flatten() {
-        let book = case.book();
-        let reference = answer(reference::check(&book));
+        let (book, locked) = (case.book(), (case.base)().encode());
+        let books = Books::of(&book, &locked);
+        let reference = answer(reference::check(books));
         assert_eq!(reference, case.answer, "reference: {}", case.name);
-        let library = answer(library::check(&book));
+        let library = answer(library::check(books));
         assert_eq!(library, case.answer, "library: {}", case.name);
     }
 }

@@ -1,8 +1,10 @@
 //! Compares the library's check with the reference's on some hundred thousand books:
 //! accepted ones of every size, every fault alone and two at once, every truncation,
-//! turned bits, noise.
+//! turned bits, noise. A locked book is lent with most of them; `locked.rs` has the faults
+//! of that one.
 
 use fervolatro_testing::book::{Book, Sections};
+use fervolatro_testing::books::{Encoded, Pair};
 use fervolatro_testing::harness::report::shown;
 use fervolatro_testing::harness::{
     constraint_over, every_mask, zero_total_over, Call, Family, Run, Units, Wanted, LIBRARY,
@@ -13,7 +15,7 @@ use fervolatro_testing::requests::faults::{self, Fault, Spot};
 use fervolatro_testing::requests::generate::Sizes;
 use fervolatro_testing::requests::random::Random;
 use fervolatro_testing::requests::worked::{empty_book, worked_book};
-use fervolatro_testing::Refusal;
+use fervolatro_testing::{Books, Refusal};
 
 /// Whole sizes that random draws seldom give, the largest legal book among them.
 const CHOSEN_SIZES: [Sizes; 6] = [
@@ -40,7 +42,7 @@ fn library_and_reference_agree() {
     let refused = every_mask(zero_total_over, 20);
     Run::over(&FAMILIES, LIBRARY, Units::Own).finish(&Wanted {
         inputs: 600_000,
-        answers: &[("check", &[0, 1, 2, 3, 4, 5, 6, 7, 8, 9, 10])],
+        answers: &[("check", &[0, 1, 2, 3, 4, 5, 6, 7, 8, 9, 10, 17, 18])],
         seen: accepted.chain(refused).collect(),
     });
 }
@@ -65,11 +67,12 @@ const FAMILIES: [Family; 16] = [
 ];
 
 /// Asks both, and gives the number they agree on, 0 for an accepted book.
-fn compare(run: &mut Run, book: &[u8]) -> u8 {
+fn compare<'b>(run: &mut Run, books: impl Into<Books<'b>>) -> u8 {
     run.input();
-    let answer = run.compare(Call::Check, book);
+    let books = books.into();
+    let answer = run.compare(Call::Check, books);
     if let Err(Refusal { number: 10, place }) = answer {
-        see_zero_total(run, book, place);
+        see_zero_total(run, books.book, place);
     }
     answer.map_or_else(|refusal| refusal.number, |_| 0)
 }
@@ -86,16 +89,17 @@ fn see_zero_total(run: &mut Run, bytes: &[u8], place: usize) {
 }
 
 /// Compares a book that has to be accepted.
-fn compare_accepted(run: &mut Run, book: &Book) {
-    let bytes = book.encode();
+fn compare_accepted(run: &mut Run, pair: &Pair) {
+    let bytes = pair.encode();
     let number = compare(run, &bytes);
     assert_eq!(number, 0, "not accepted: {}", shown(&bytes));
-    run.see_masks(book);
+    run.see_masks(&pair.book);
 }
 
-fn compare_at_edges(run: &mut Run, book: &mut [u8], record: usize, fields: &[Edged]) {
+fn compare_at_edges(run: &mut Run, bytes: &mut Encoded, record: usize, fields: &[Edged]) {
+    let Encoded { book, locked } = bytes;
     edges::each(book, record, fields, |book| {
-        compare(run, book);
+        compare(run, Books::of(book, locked));
     });
 }
 
@@ -107,15 +111,15 @@ fn small_and_chosen_sizes(run: &mut Run, small: usize) -> Vec<Sizes> {
 fn accepted_books(run: &mut Run) {
     for (count, most) in [(30_000, Sizes::SMALL), (3_000, Sizes::LARGEST)] {
         for _ in 0..count {
-            let book = run.accepted(most);
-            compare_accepted(run, &book);
+            let pair = run.accepted(most);
+            compare_accepted(run, &pair);
         }
     }
     for sizes in CHOSEN_SIZES.repeat(8) {
-        let book = run.accepted_of(sizes);
-        compare_accepted(run, &book);
+        let pair = run.accepted_of(sizes);
+        compare_accepted(run, &pair);
     }
-    assert_eq!(run.accepted_of(Sizes::LARGEST).encode().len(), 39_796);
+    assert_eq!(run.accepted_of(Sizes::LARGEST).encode().book.len(), 39_796);
 }
 
 /// Every day from 2024 to 2101, and days and months that there are not.
@@ -134,7 +138,8 @@ fn dates(run: &mut Run) {
 
 fn header_edges(run: &mut Run) {
     for sizes in small_and_chosen_sizes(run, 40) {
-        let mut bytes = run.accepted_of(sizes).encode();
+        let pair = run.accepted_of(sizes);
+        let mut bytes = run.lent(&pair);
         compare_at_edges(run, &mut bytes, 0, edges::HEADER);
     }
 }
@@ -159,9 +164,9 @@ fn counts_with_their_length(run: &mut Run) {
 /// inside and just past both ends of its range.
 fn field_edges(run: &mut Run) {
     for sizes in small_and_chosen_sizes(run, 200) {
-        let book = run.accepted_of(sizes);
-        let mut bytes = book.encode();
-        for (section, fields) in edges::by_section(&Sections::of(&book.counted_header())) {
+        let pair = run.accepted_of(sizes);
+        let mut bytes = run.lent(&pair);
+        for (section, fields) in edges::by_section(&Sections::of(&pair.book.counted_header())) {
             for spot in Spot::ALL {
                 if let Some(index) = spot.index(section.count) {
                     compare_at_edges(run, &mut bytes, section.offset(index), fields);
@@ -174,7 +179,10 @@ fn field_edges(run: &mut Run) {
 /// Every service with every mode, each of the five fields that a mode may want
 /// 0 being 0 or not.
 fn modes(run: &mut Run) {
-    for base in [worked_book(), run.accepted_of(sizes(5, 6, 6, 2))] {
+    let worked = Pair::alone(worked_book());
+    for pair in [worked, run.accepted_of(sizes(5, 6, 6, 2))] {
+        let locked = pair.encode().locked;
+        let base = pair.book;
         let mut book = base.clone();
         let mut bytes = Vec::new();
         for spot in Spot::ALL {
@@ -192,7 +200,7 @@ fn modes(run: &mut Run) {
                 constraint.rcf = (filled >> 3 & 1) as i32;
                 constraint.drcf = -((filled >> 4 & 1) as i32);
                 book.encode_into(&mut bytes);
-                compare(run, &bytes);
+                compare(run, Books::of(&bytes, &locked));
             }
             book.constraints[index] = base.constraints[index];
         }
@@ -202,7 +210,7 @@ fn modes(run: &mut Run) {
 /// Each fault alone, in the first, the middle and the last record that can have
 /// it. Each is seen to do what it is made for.
 fn single_faults(run: &mut Run) {
-    let mut bases: Vec<Book> = (0..120).map(|_| run.accepted(Sizes::SMALL)).collect();
+    let mut bases: Vec<Pair> = (0..120).map(|_| run.accepted(Sizes::SMALL)).collect();
     bases.extend((0..30).map(|_| run.accepted_of(sizes(7, 14, 12, 3))));
     for fault in faults::all() {
         for spot in Spot::ALL {
@@ -216,10 +224,10 @@ fn single_faults(run: &mut Run) {
 }
 
 /// Compares the base with the fault, and gives the number answered.
-fn fault_of(run: &mut Run, base: &Book, fault: &Fault, spot: Spot) -> u8 {
-    let mut book = base.clone();
-    (fault.apply)(&mut book, spot);
-    compare(run, &book.encode())
+fn fault_of(run: &mut Run, base: &Pair, fault: &Fault, spot: Spot) -> u8 {
+    let mut pair = base.clone();
+    (fault.apply)(&mut pair.book, spot);
+    compare(run, &pair.encode())
 }
 
 fn faults_of_large_books(run: &mut Run) {
@@ -234,25 +242,24 @@ fn faults_of_large_books(run: &mut Run) {
 }
 
 fn two_faults(run: &mut Run) {
-    run.each_two_faults(12, |run, _, bytes| {
-        compare(run, bytes);
+    run.each_two_faults(12, |run, _, books| {
+        compare(run, books);
     });
 }
 
 /// Two fields at their edges at once, sometimes after a fault of the records.
 fn two_fields(run: &mut Run) {
     let faults: Vec<&Fault> = faults::all().collect();
-    let mut bytes = Vec::new();
     for _ in 0..80_000 {
-        let mut book = run.accepted(Sizes::SMALL);
+        let mut pair = run.accepted(Sizes::SMALL);
         if run.random.coin() {
             let fault = *run.random.pick(&faults);
-            (fault.apply)(&mut book, *run.random.pick(&Spot::ALL));
+            (fault.apply)(&mut pair.book, *run.random.pick(&Spot::ALL));
         }
-        book.encode_into(&mut bytes);
-        let sections = Sections::of(&book.counted_header());
-        set_random_field(&mut run.random, &mut bytes, &sections);
-        set_random_field(&mut run.random, &mut bytes, &sections);
+        let mut bytes = run.lent(&pair);
+        let sections = Sections::of(&pair.book.counted_header());
+        set_random_field(&mut run.random, &mut bytes.book, &sections);
+        set_random_field(&mut run.random, &mut bytes.book, &sections);
         compare(run, &bytes);
     }
 }
@@ -271,12 +278,12 @@ fn set_random_field(random: &mut Random, bytes: &mut [u8], sections: &Sections) 
 fn truncations(run: &mut Run) {
     let largest = run.accepted_of(Sizes::LARGEST);
     let small = run.accepted_of(sizes(3, 4, 5, 2));
-    for book in [worked_book(), small, largest] {
-        let mut bytes = book.encode();
-        let whole = bytes.len();
-        bytes.extend([0; 40]);
-        for length in 0..=bytes.len() {
-            let number = compare(run, &bytes[..length]);
+    for pair in [Pair::alone(worked_book()), small, largest] {
+        let Encoded { mut book, locked } = pair.encode();
+        let whole = book.len();
+        book.extend([0; 40]);
+        for length in 0..=book.len() {
+            let number = compare(run, Books::of(&book[..length], &locked));
             assert_eq!(number == 0, length == whole, "length {length} of {whole}");
         }
     }
@@ -284,21 +291,22 @@ fn truncations(run: &mut Run) {
 
 fn every_bit(run: &mut Run) {
     let small = run.accepted_of(sizes(3, 4, 5, 2));
-    for book in [empty_book(), worked_book(), small] {
-        let mut bytes = book.encode();
-        let bits = 0..8 * bytes.len();
-        run.each_turned_bit(&mut bytes, bits, |run, bytes| {
-            compare(run, bytes);
+    let by_themselves = [empty_book(), worked_book()].map(Pair::alone);
+    for pair in by_themselves.into_iter().chain([small]) {
+        let Encoded { mut book, locked } = pair.encode();
+        let bits = 0..8 * book.len();
+        run.each_turned_bit(&mut book, bits, |run, book| {
+            compare(run, Books::of(book, &locked));
         });
     }
 }
 
 fn random_bits(run: &mut Run) {
     for size in CHOSEN_SIZES {
-        let mut bytes = run.accepted_of(size).encode();
-        let bits = run.bits_of(&bytes, 3_000);
-        run.each_turned_bit(&mut bytes, bits, |run, bytes| {
-            compare(run, bytes);
+        let Encoded { mut book, locked } = run.accepted_of(size).encode();
+        let bits = run.bits_of(&book, 3_000);
+        run.each_turned_bit(&mut book, bits, |run, book| {
+            compare(run, Books::of(book, &locked));
         });
     }
 }
@@ -316,9 +324,10 @@ fn noise(run: &mut Run) {
 /// A right header and the right length; noise from some record on.
 fn noise_after_header(run: &mut Run) {
     for _ in 0..20_000 {
-        let mut bytes = run.accepted(Sizes::SMALL).encode();
-        let start = 24 + run.random.below(bytes.len() - 23);
-        sparse_noise(&mut run.random, &mut bytes[start..]);
+        let pair = run.accepted(Sizes::SMALL);
+        let mut bytes = run.lent(&pair);
+        let start = 24 + run.random.below(bytes.book.len() - 23);
+        sparse_noise(&mut run.random, &mut bytes.book[start..]);
         compare(run, &bytes);
     }
 }
@@ -326,9 +335,9 @@ fn noise_after_header(run: &mut Run) {
 /// One record replaced: by noise, by zeros, or by another of its kind.
 fn one_record_of_noise(run: &mut Run) {
     for _ in 0..20_000 {
-        let book = run.accepted(Sizes::SMALL);
-        let mut bytes = book.encode();
-        let sections = Sections::of(&book.counted_header());
+        let pair = run.accepted(Sizes::SMALL);
+        let mut bytes = run.lent(&pair);
+        let sections = Sections::of(&pair.book.counted_header());
         let (section, _) = *run.random.pick(&edges::by_section(&sections));
         if section.count == 0 {
             continue;
@@ -337,9 +346,12 @@ fn one_record_of_noise(run: &mut Run) {
         let other = section.offset(run.random.below(section.count));
         let replaced = record..record + section.record_size;
         match run.random.below(3) {
-            0 => run.random.fill(&mut bytes[replaced]),
-            1 => bytes[replaced].fill(0),
-            _ => bytes.copy_within(other..other + section.record_size, record),
+            0 => run.random.fill(&mut bytes.book[replaced]),
+            1 => bytes.book[replaced].fill(0),
+            _ => {
+                let range = other..other + section.record_size;
+                bytes.book.copy_within(range, record);
+            }
         }
         compare(run, &bytes);
     }

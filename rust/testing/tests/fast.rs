@@ -1,12 +1,14 @@
 //! Compares the fast version, which the benchmark holds the library against, with
 //! the reference: checks, statements, their lengths and balances of accepted books of
-//! every size, of books with faults, fields at their edges and turned bits; and all lines
-//! of statements, of any bytes. The library is not asked.
+//! every size, of books with faults, fields at their edges and turned bits, each with a
+//! locked book; and all lines of statements, of any bytes. The library is not asked.
+//! `locked.rs` compares the two on more pairs of books.
 
-use fervolatro_testing::book::{Book, Sections};
+use fervolatro_testing::book::Sections;
+use fervolatro_testing::books::{Encoded, Pair};
 use fervolatro_testing::harness::{Answer, Call, Family, Run, Units, Wanted, FAST};
 use fervolatro_testing::reference;
-use fervolatro_testing::requests::accounts::named;
+use fervolatro_testing::requests::accounts::named_by;
 use fervolatro_testing::requests::edges;
 use fervolatro_testing::requests::faults::Spot;
 use fervolatro_testing::requests::generate::{
@@ -16,16 +18,20 @@ use fervolatro_testing::requests::statements::{any_statement, statement_of_every
 use fervolatro_testing::requests::worked::{
     empty_book, empty_statement, worked_book, worked_statement,
 };
+use fervolatro_testing::Books;
 
 #[test]
 fn fast_and_reference_agree() {
     Run::over(&BOOKS, FAST, Units::Either).finish(&Wanted {
         inputs: 105_000,
         answers: &[
-            ("check", &[0, 1, 2, 3, 4, 5, 6, 7, 8, 9, 10]),
-            ("length", &[0, 1, 2, 3, 4, 5, 6, 7, 8, 9, 10, 11]),
-            ("statement", &[0, 1, 2, 3, 4, 5, 6, 7, 8, 9, 10, 11, 13]),
-            ("balance", &[0, 1, 2, 3, 4, 5, 6, 7, 8, 9, 10, 15]),
+            ("check", &[0, 1, 2, 3, 4, 5, 6, 7, 8, 9, 10, 17, 18]),
+            ("length", &[0, 1, 2, 3, 4, 5, 6, 7, 8, 9, 10, 11, 17, 18]),
+            (
+                "statement",
+                &[0, 1, 2, 3, 4, 5, 6, 7, 8, 9, 10, 11, 13, 17, 18],
+            ),
+            ("balance", &[0, 1, 2, 3, 4, 5, 6, 7, 8, 9, 10, 15, 17, 18]),
         ],
         seen: Vec::new(),
     });
@@ -61,28 +67,29 @@ const STATEMENTS: [Family; 3] = [
 ];
 
 /// Compares the check, a statement in some buffer, and a balance.
-fn compare(run: &mut Run, bytes: &[u8], account: u32) {
+fn compare<'b>(run: &mut Run, books: impl Into<Books<'b>>, account: u32) {
     run.input();
-    let room = run.some_room(bytes, account, 1_000);
+    let books = books.into();
+    let room = run.some_room(books, account, 1_000);
     let pool = *run.random.pick(&[0, 1, 4, u64::MAX]);
     for call in [
         Call::Check,
         Call::Statement { account, room },
         Call::Balance { pool },
     ] {
-        let _ = run.compare(call, bytes);
+        let _ = run.compare(call, books);
     }
 }
 
-fn compare_damaged(run: &mut Run, book: &Book, bytes: &[u8]) {
-    let account = run.some_account(book);
-    compare(run, bytes, account);
+fn compare_damaged(run: &mut Run, pair: &Pair, books: Books) {
+    let account = run.some_account(pair);
+    compare(run, books, account);
 }
 
 /// Compares the statements of these accounts and all balances of an accepted book.
-fn compare_accepted(run: &mut Run, book: &Book, accounts: &[u32]) {
+fn compare_accepted(run: &mut Run, pair: &Pair, accounts: &[u32]) {
     run.input();
-    let bytes = book.encode();
+    let bytes = pair.encode();
     assert_eq!(run.compare(Call::Check, &bytes), Ok(Answer::Nothing));
     for &account in accounts {
         let length = reference::length(&bytes, account).unwrap_or(300);
@@ -98,27 +105,27 @@ fn compare_accepted(run: &mut Run, book: &Book, accounts: &[u32]) {
 }
 
 fn accepted_books(run: &mut Run) {
-    let mut books = vec![empty_book(), worked_book()];
-    books.extend((0..6_000).map(|_| run.accepted(Sizes::SMALL)));
-    books.extend((0..1_000).map(|_| run.accepted(Sizes::MEDIUM)));
-    books.extend((0..1_000).map(|_| run.of_halves()));
-    for mut book in books {
+    let mut pairs = [empty_book(), worked_book()].map(Pair::alone).to_vec();
+    pairs.extend((0..6_000).map(|_| run.accepted(Sizes::SMALL)));
+    pairs.extend((0..1_000).map(|_| run.accepted(Sizes::MEDIUM)));
+    pairs.extend((0..1_000).map(|_| run.of_halves()));
+    for mut pair in pairs {
         if run.random.below(4) == 0 {
-            set_amounts_to_ends(&mut run.random, &mut book);
+            set_amounts_to_ends(&mut run.random, &mut pair.book);
         }
-        let mut accounts = named(&book);
-        accounts.extend([0, run.some_account(&book), u32::MAX]);
-        compare_accepted(run, &book, &accounts);
+        let mut accounts = named_by(&pair);
+        accounts.extend([0, run.some_account(&pair), u32::MAX]);
+        compare_accepted(run, &pair, &accounts);
     }
 }
 
 fn large_books(run: &mut Run) {
     let (longest, account) = book_of_longest_statement(&mut run.random);
-    compare_accepted(run, &longest, &[account, 9]);
+    compare_accepted(run, &Pair::alone(longest), &[account, 9]);
     for _ in 0..12 {
-        let book = run.accepted(Sizes::LARGEST);
-        let accounts = [0; 4].map(|_| run.some_account(&book));
-        compare_accepted(run, &book, &accounts);
+        let pair = run.accepted(Sizes::LARGEST);
+        let accounts = [0; 4].map(|_| run.some_account(&pair));
+        compare_accepted(run, &pair, &accounts);
     }
 }
 
@@ -144,16 +151,16 @@ fn dates_and_lengths(run: &mut Run) {
 /// inside and just past both ends of its range.
 fn field_edges(run: &mut Run) {
     for _ in 0..70 {
-        let book = run.accepted(Sizes::SMALL);
-        let mut bytes = book.encode();
-        edges::each(&mut bytes, 0, edges::HEADER, |bytes| {
-            compare_damaged(run, &book, bytes);
+        let pair = run.accepted(Sizes::SMALL);
+        let Encoded { mut book, locked } = run.lent(&pair);
+        edges::each(&mut book, 0, edges::HEADER, |book| {
+            compare_damaged(run, &pair, Books::of(book, &locked));
         });
-        for (section, fields) in edges::by_section(&Sections::of(&book.counted_header())) {
+        for (section, fields) in edges::by_section(&Sections::of(&pair.book.counted_header())) {
             for spot in [Spot::First, Spot::Last] {
                 if let Some(index) = spot.index(section.count) {
-                    edges::each(&mut bytes, section.offset(index), fields, |bytes| {
-                        compare_damaged(run, &book, bytes);
+                    edges::each(&mut book, section.offset(index), fields, |book| {
+                        compare_damaged(run, &pair, Books::of(book, &locked));
                     });
                 }
             }

@@ -1,6 +1,8 @@
 //! Runs the listing program and compares what it prints with the reference's
 //! listing, byte by byte: accounts of books of every size, accounts that no row
-//! names, every sort of refusal, short input and long. The environment variable
+//! names, every sort of refusal, short input and long. It lends no locked book: one with a
+//! contract of kind 2 is refused, so that most books here have none. The environment
+//! variable
 //! FERVOLATRO_LISTING names another program to be run in the place of
 //! `target/bin/listing`.
 //!
@@ -12,6 +14,8 @@ use std::io::{ErrorKind, Write as _};
 use std::process::{Command, Output, Stdio};
 use std::thread;
 
+use fervolatro_testing::book::Book;
+use fervolatro_testing::books::Pair;
 use fervolatro_testing::harness::report::shown;
 use fervolatro_testing::harness::{asked_of, Run, Units, Wanted, LIBRARY};
 use fervolatro_testing::requests::damage::sparse_noise;
@@ -20,6 +24,7 @@ use fervolatro_testing::requests::generate::{
     book_of_longest_statement, set_amounts_to_ends, Sizes,
 };
 use fervolatro_testing::requests::halves;
+use fervolatro_testing::requests::locked::set_kinds;
 use fervolatro_testing::requests::worked::{empty_book, worked_book};
 use fervolatro_testing::{in_repository, reference};
 
@@ -27,7 +32,7 @@ use fervolatro_testing::{in_repository, reference};
 const MOST_READ: usize = 65_536;
 
 /// Each kind of run, and how many of it there are at least.
-const FEWEST_OF_KIND: [(Kind, u64); 18] = [
+const FEWEST_OF_KIND: [(Kind, u64); 19] = [
     (Kind::Short, 20),
     (Kind::Long, 20),
     (Kind::Listed, 800),
@@ -45,6 +50,7 @@ const FEWEST_OF_KIND: [(Kind, u64); 18] = [
     (Kind::Refused(9), 50),
     (Kind::Refused(10), 10),
     (Kind::Refused(11), 50),
+    (Kind::Refused(17), 100),
     (Kind::Negative, 200),
 ];
 
@@ -61,8 +67,8 @@ fn program_and_reference_print_the_same() {
         });
     }
     let kinds = run_all(&inputs, run.seed());
-    let never = [12, 13].map(Kind::Refused);
-    assert!(!kinds.iter().any(|kind| never.contains(kind)), "12 or 13");
+    let never = [12, 13, 18].map(Kind::Refused);
+    assert!(!kinds.iter().any(|kind| never.contains(kind)), "{never:?}");
     for kind in kinds {
         run.see(format!("{kind:?}"));
     }
@@ -233,6 +239,22 @@ fn asked(account: u32, book: &[u8]) -> Vec<u8> {
     [&account.to_le_bytes(), book].concat()
 }
 
+/// The book by itself. Now and then it keeps its contracts of kind 2, for which it is
+/// refused.
+fn alone(run: &mut Run, pair: Pair) -> Pair {
+    let mut book = pair.book;
+    if run.random.below(5) != 0 {
+        set_kinds(&mut book, 1);
+    }
+    Pair::alone(book)
+}
+
+/// One with up to so many records of each kind.
+fn accepted(run: &mut Run, most: Sizes) -> Pair {
+    let pair = run.accepted(most);
+    alone(run, pair)
+}
+
 /// Up to four bytes, of which four are an account and an empty book.
 fn short_input(run: &mut Run, add: &mut Add) {
     for length in 0..=4 {
@@ -254,9 +276,9 @@ fn worked(run: &mut Run, add: &mut Add) {
 
 fn every_account(run: &mut Run, add: &mut Add) {
     for _ in 0..120 {
-        let book = run.accepted(Sizes::SMALL);
-        for account in asked_of(&book) {
-            add(run, asked(account, &book.encode()));
+        let pair = accepted(run, Sizes::SMALL);
+        for account in asked_of(&pair) {
+            add(run, asked(account, &pair.book.encode()));
         }
     }
 }
@@ -273,14 +295,16 @@ fn every_region(run: &mut Run, add: &mut Add) {
             0 => no_lines,
             _ => Sizes::SMALL,
         };
-        let (book, account) = run.in_every_region(most);
-        add(run, asked(account, &book.encode()));
+        let (pair, account) = run.in_every_region(most);
+        let pair = alone(run, pair);
+        add(run, asked(account, &pair.book.encode()));
     }
 }
 
 fn halves(run: &mut Run, add: &mut Add) {
     for _ in 0..60 {
-        let book = run.of_halves().encode();
+        let pair = run.of_halves();
+        let book = alone(run, pair).book.encode();
         for account in halves::ACCOUNTS {
             add(run, asked(account, &book));
         }
@@ -290,26 +314,28 @@ fn halves(run: &mut Run, add: &mut Add) {
 /// Amounts up to 5,000,000.0000 dollars either way.
 fn ends(run: &mut Run, add: &mut Add) {
     for _ in 0..250 {
-        let book = run.at_ends();
-        let account = run.some_account(&book);
-        add(run, asked(account, &book.encode()));
+        let pair = run.at_ends();
+        let pair = alone(run, pair);
+        let account = run.some_account(&pair);
+        add(run, asked(account, &pair.book.encode()));
     }
 }
 
 fn medium_books(run: &mut Run, add: &mut Add) {
     for _ in 0..100 {
-        let book = run.accepted(Sizes::MEDIUM);
-        let account = run.some_account(&book);
-        add(run, asked(account, &book.encode()));
+        let pair = accepted(run, Sizes::MEDIUM);
+        let account = run.some_account(&pair);
+        add(run, asked(account, &pair.book.encode()));
     }
 }
 
 fn large_books(run: &mut Run, add: &mut Add) {
-    for _ in 0..8 {
-        let book = run.accepted_of(Sizes::LARGEST);
-        let bytes = book.encode();
+    for _ in 0..10 {
+        let pair = run.accepted_of(Sizes::LARGEST);
+        let pair = alone(run, pair);
+        let bytes = pair.book.encode();
         for _ in 0..4 {
-            let account = run.some_account(&book);
+            let account = run.some_account(&pair);
             add(run, asked(account, &bytes));
         }
     }
@@ -333,9 +359,10 @@ fn header_edges(run: &mut Run, add: &mut Add) {
 
 /// Each fault in the first, the middle and the last record that can have it.
 fn single_faults(run: &mut Run, add: &mut Add) {
-    run.each_fault(Sizes::MEDIUM, 1, |run, book, bytes| {
-        let account = run.some_account(book);
-        add(run, asked(account, bytes));
+    run.each_fault(Sizes::MEDIUM, 1, |run, pair, books| {
+        let account = run.some_account(pair);
+        let faulty = alone(run, Pair::alone(Book::decode(books.book)));
+        add(run, asked(account, &faulty.book.encode()));
     });
 }
 
@@ -350,9 +377,9 @@ fn truncations(run: &mut Run, add: &mut Add) {
 
 /// A bit turned, and noise.
 fn damage(run: &mut Run, add: &mut Add) {
-    run.each_turned_book(400, |run, book, bytes| {
-        let account = run.some_account(book);
-        add(run, asked(account, bytes));
+    run.each_turned_book(400, |run, pair, books| {
+        let account = run.some_account(pair);
+        add(run, asked(account, books.book));
     });
     for _ in 0..50 {
         let mut bytes = vec![0; run.random.below(500)];
@@ -372,7 +399,8 @@ fn long_input(run: &mut Run, add: &mut Add) {
         200_000,
     ];
     let largest = run.accepted_of(Sizes::LARGEST);
-    let fronts = [worked_book().encode(), largest.encode(), vec![0xFF; 100]];
+    let largest = largest.book.encode();
+    let fronts = [worked_book().encode(), largest, vec![0xFF; 100]];
     for length in lengths {
         for front in &fronts {
             for filling in [0, b'R'] {

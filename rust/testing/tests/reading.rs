@@ -4,10 +4,10 @@
 //! lines, all lines at once, their numbers into several buffers, and writing it again
 //! into several have to be answered the same.
 
-use fervolatro_testing::book::Book;
+use fervolatro_testing::books::Pair;
 use fervolatro_testing::harness::report::shown;
 use fervolatro_testing::harness::{Answer, Call, Family, Run, Units, Wanted, LIBRARY};
-use fervolatro_testing::requests::accounts::named;
+use fervolatro_testing::requests::accounts::named_by;
 use fervolatro_testing::requests::damage::sparse_noise;
 use fervolatro_testing::requests::edges;
 use fervolatro_testing::requests::faults::Spot;
@@ -54,9 +54,12 @@ fn library_and_reference_read_the_same() {
             ("rewrite", &[0, 13, 14]),
             ("whole rewrite", &[0, 14]),
         ],
-        seen: Vec::new(),
+        seen: vec![(WITH_LOCKED.to_owned(), 2_000)],
     });
 }
+
+/// Statements that the library writes from two books.
+const WITH_LOCKED: &str = "written with a locked book";
 
 const FAMILIES: [Family; 17] = [
     ("written by the library", written_by_library),
@@ -142,9 +145,12 @@ fn rooms(run: &mut Run, length: usize) -> [usize; 4] {
 
 /// What the library writes for an account is a statement, and the header and the lines
 /// read from it are those that the reference settles, in the same order.
-fn compare_written(run: &mut Run, book: &Book, account: u32) {
-    let settled = reference::settle(&book.encode(), account).expect("it is settled");
-    let statement = written(book, account);
+fn compare_written(run: &mut Run, pair: &Pair, account: u32) {
+    let settled = reference::settle(&pair.encode(), account).expect("it is settled");
+    let statement = written(pair, account);
+    if pair.read().count() == 2 {
+        run.see(WITH_LOCKED);
+    }
     compare_accepted(run, &statement);
     assert_eq!(library::header(&statement), Ok(settled.header.heading()));
     for (index, line) in (0..).zip(&settled.lines) {
@@ -155,13 +161,14 @@ fn compare_written(run: &mut Run, book: &Book, account: u32) {
     assert_eq!(library::lines(&statement), Ok(lines));
 }
 
-/// An accepted book in which accounts have several rows, and an account of it.
-fn book_and_account(run: &mut Run, most: Sizes) -> (Book, u32) {
+/// An accepted book in which accounts have several rows, with the locked one where it is
+/// read, and an account of theirs.
+fn books_and_account(run: &mut Run, most: Sizes) -> (Pair, u32) {
     loop {
-        let book = run.accepted(most);
-        let accounts = named(&book);
+        let pair = run.accepted(most);
+        let accounts = named_by(&pair);
         if !accounts.is_empty() {
-            return (book, *run.random.pick(&accounts));
+            return (pair, *run.random.pick(&accounts));
         }
     }
 }
@@ -169,8 +176,8 @@ fn book_and_account(run: &mut Run, most: Sizes) -> (Book, u32) {
 /// A statement of a few lines: one that the library writes, or one of any lines.
 fn short_statement(run: &mut Run) -> Statement {
     if run.random.below(4) == 0 {
-        let (book, account) = book_and_account(run, Sizes::SMALL);
-        return Statement::decode(&written(&book, account));
+        let (pair, account) = books_and_account(run, Sizes::SMALL);
+        return Statement::decode(&written(&pair, account));
     }
     let lines = run.random.below(7);
     any_statement(&mut run.random, lines)
@@ -199,15 +206,15 @@ fn line_at(index: usize) -> usize {
 }
 
 /// The statement that the library writes.
-fn written(book: &Book, account: u32) -> Vec<u8> {
-    library::whole_statement(&book.encode(), account).expect("it is settled")
+fn written(pair: &Pair, account: u32) -> Vec<u8> {
+    library::whole_statement(&pair.encode(), account).expect("it is settled")
 }
 
 fn written_by_library(run: &mut Run) {
     for (count, most) in [(8_000, Sizes::SMALL), (20, Sizes::LARGEST)] {
         for _ in 0..count {
-            let (book, account) = book_and_account(run, most);
-            compare_written(run, &book, account);
+            let (pair, account) = books_and_account(run, most);
+            compare_written(run, &pair, account);
         }
     }
 }
@@ -215,8 +222,9 @@ fn written_by_library(run: &mut Run) {
 /// As many lines as there can be, and what is wrong in one of them.
 fn longest_written(run: &mut Run) {
     let (book, account) = book_of_longest_statement(&mut run.random);
-    compare_written(run, &book, account);
-    let statement = Statement::decode(&written(&book, account));
+    let pair = Pair::alone(book);
+    compare_written(run, &pair, account);
+    let statement = Statement::decode(&written(&pair, account));
     assert_eq!(statement.lines.len(), MOST_LINES);
     compare_line_edges(run, &statement);
 }

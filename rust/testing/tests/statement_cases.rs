@@ -7,13 +7,16 @@
 //! The papers round only what they print and add up exact numbers; 01 rounds each
 //! pool and each line to a ten-thousandth of a dollar. Where that shows in the
 //! last place, it is said.
+//!
+//! Each book is lent as its own locked book, so that test payments are shared by the
+//! energies that stand there; `locked_cases.rs` has those of two books.
 
 use fervolatro_testing::book::{Book, Constraint, EnergyRow};
 use fervolatro_testing::requests::worked::{
     book_of, constraint, contract, energy_row, small_halves_book, unit_row, worked_book,
 };
 use fervolatro_testing::statement::Statement;
-use fervolatro_testing::{library, reference, Refusal};
+use fervolatro_testing::{library, reference, Books, Refusal};
 
 /// The bits of TAS1, and of NSW1, QLD1, SA1 and VIC1 together.
 const TASMANIA: u8 = 0b01000;
@@ -22,12 +25,13 @@ const MAINLAND: u8 = 0b10111;
 /// The statement, which both have to write, in a buffer of just the length asked for.
 fn statement(book: &Book, account: u32) -> Statement {
     let bytes = book.encode();
-    let length = library::length(&bytes, account).expect("it is settled");
+    let books = Books::of(&bytes, &bytes);
+    let length = library::length(books, account).expect("it is settled");
     let mut buffer = vec![0; length];
-    let written = library::statement(&bytes, account, &mut buffer);
+    let written = library::statement(books, account, &mut buffer);
     assert_eq!(written, Ok(length));
     let library = Statement::decode(&buffer);
-    let reference = reference::settle(&bytes, account).expect("it is settled");
+    let reference = reference::settle(books, account).expect("it is settled");
     assert_eq!(library, reference);
     library
 }
@@ -401,7 +405,7 @@ fn guide_contract_book(kind: u8) -> Book {
 }
 
 /// Halves: 150,000 each in NSW1, 350,000 each in QLD1. A test payment is shared in
-/// the same way (A.4.2); 01 has it use the energies of the book being settled.
+/// the same way (A.4.2), by the energies of the locked book, which here are the same.
 #[test]
 fn guide_a4_restart_contract() {
     let lines = [

@@ -9,7 +9,7 @@ use fervolatro_testing::dispatch::{encode, Row};
 use fervolatro_testing::requests::generate::book_of_longest_statement;
 use fervolatro_testing::requests::random::Random;
 use fervolatro_testing::requests::worked::{
-    empty_book, energy_row, small_halves_book, unit_row, worked_book, worked_statement,
+    contract, empty_book, energy_row, small_halves_book, unit_row, worked_book, worked_statement,
 };
 
 fn refused<A>(reason: Reason, place: usize) -> Result<A, Refusal> {
@@ -25,7 +25,7 @@ fn kinds(pools: &[Pool]) -> Vec<(u32, PoolKind)> {
 /// Accounts 7 and 9 have units and energy.
 #[test]
 fn accounts_of_the_worked_book() {
-    let accounts = fervolatro::accounts(&worked_book().encode());
+    let accounts = fervolatro::accounts(&worked_book().encode(), None);
     assert_eq!(accounts, Ok(vec![7, 9]));
 }
 
@@ -39,9 +39,12 @@ fn accounts_rise_and_stand_once() {
         row.account = account;
     }
     book.energies.push(energy_row(1 << 24, 0, [0; 4]));
-    let accounts = fervolatro::accounts(&book.encode());
+    let accounts = fervolatro::accounts(&book.encode(), None);
     assert_eq!(accounts, Ok(vec![3, 7, 8, 9, 1 << 24, u32::MAX]));
-    assert_eq!(fervolatro::accounts(&empty_book().encode()), Ok(vec![]));
+    assert_eq!(
+        fervolatro::accounts(&empty_book().encode(), None),
+        Ok(vec![])
+    );
 }
 
 /// Constraint 500, service 9, mask 1, mode 1: FPP, used, unused.
@@ -59,16 +62,16 @@ fn pools_of_the_worked_book() {
         source,
         kind,
     });
-    let listed = fervolatro::pools(&worked_book().encode());
+    let listed = fervolatro::pools(&worked_book().encode(), None);
     assert_eq!(listed, Ok(pools.collect()));
-    assert_eq!(fervolatro::pools(&empty_book().encode()), Ok(vec![]));
+    assert_eq!(fervolatro::pools(&empty_book().encode(), None), Ok(vec![]));
 }
 
 /// Constraints 1 and 2 of mode 0, 3 of mode 2, 4 of mode 1; contracts 1 and 2.
 #[test]
 fn pools_of_every_kind() {
     let book = small_halves_book().encode();
-    let pools = fervolatro::pools(&book).expect("it is accepted");
+    let pools = fervolatro::pools(&book, None).expect("it is accepted");
     let by_hand = [
         (1, PoolKind::Contingency),
         (2, PoolKind::Contingency),
@@ -82,9 +85,9 @@ fn pools_of_every_kind() {
     assert_eq!(kinds(&pools), by_hand);
     for (number, pool) in (0..).zip(&pools) {
         assert_eq!(pool.number, number);
-        assert!(fervolatro::balance(&book, number).is_ok(), "{pool:?}");
+        assert!(fervolatro::balance(&book, None, number).is_ok(), "{pool:?}");
     }
-    let past = fervolatro::balance(&book, pools.len() as u64);
+    let past = fervolatro::balance(&book, None, pools.len() as u64);
     assert_eq!(past, refused(Reason::PastEnd, 0));
 }
 
@@ -96,32 +99,100 @@ fn refused_books_have_no_lists() {
     book.units.push(unit_row(501, 1, 7, 0, 0));
     let book = book.encode();
     assert_eq!(
-        fervolatro::accounts(&book),
+        fervolatro::accounts(&book, None),
         refused(Reason::NoConstraint, 224)
     );
-    assert_eq!(fervolatro::pools(&book), refused(Reason::NoConstraint, 224));
-    let statement = fervolatro::statement(&book, 7);
+    assert_eq!(
+        fervolatro::pools(&book, None),
+        refused(Reason::NoConstraint, 224)
+    );
+    let statement = fervolatro::statement(&book, None, 7);
     assert_eq!(statement, refused(Reason::NoConstraint, 224));
     assert_eq!(
-        fervolatro::length(&book, 7),
+        fervolatro::length(&book, None, 7),
         refused(Reason::NoConstraint, 224)
     );
-    assert_eq!(fervolatro::accounts(b"RCB"), refused(Reason::Short, 0));
+    assert_eq!(
+        fervolatro::accounts(b"RCB", None),
+        refused(Reason::Short, 0)
+    );
+}
+
+/// The worked book with a test payment of 0 for NSW1, at 272 behind its records; and the
+/// worked book with account 11 in the place of 9, in unit rows and energy rows.
+fn test_payment() -> (Vec<u8>, Vec<u8>) {
+    let (mut book, mut locked) = (worked_book(), worked_book());
+    book.contracts = vec![contract(1, 2, 0, [1_000_000, 0, 0, 0, 0])];
+    locked.units[3].account = 11;
+    locked.units[4].account = 11;
+    locked.energies[1].account = 11;
+    (book.encode(), locked.encode())
+}
+
+/// Accounts 7 and 9 of the one book, 7 and 11 of the other. Account 11 has the residual
+/// lines of constraint 500 and two of the contract: 24 + 5 x 24 = 144 bytes.
+#[test]
+fn lists_of_two_books() {
+    let (book, locked) = test_payment();
+    let accounts = fervolatro::accounts(&book, Some(&locked));
+    assert_eq!(accounts, Ok(vec![7, 9, 11]));
+    let pools = fervolatro::pools(&book, Some(&locked)).expect("it is accepted");
+    assert_eq!(kinds(&pools)[3..], [(1, PoolKind::Contract)]);
+    let statement = fervolatro::statement(&book, Some(&locked), 11);
+    assert_eq!(statement.map(|bytes| bytes.len()), Ok(144));
+    let balance = fervolatro::balance(&book, Some(&locked), 3);
+    assert_eq!(balance.map(|balance| balance.lines), Ok(6));
+}
+
+/// No bytes are no locked book, as none are.
+#[test]
+fn an_empty_locked_book_is_none() {
+    let (book, _) = test_payment();
+    for locked in [None, Some(&[][..])] {
+        let mut buffer = [7; 312];
+        let written = fervolatro::statement_into(&book, locked, 7, &mut buffer);
+        assert_eq!(written, refused(Reason::NoLocked, 272));
+        assert_eq!(buffer, [7; 312]);
+        let refusal = fervolatro::check(&book, locked);
+        assert_eq!(refusal, refused(Reason::NoLocked, 272));
+        let length = fervolatro::length(&book, locked, 7);
+        assert_eq!(length, refused(Reason::NoLocked, 272));
+        let balance = fervolatro::balance(&book, locked, 0);
+        assert_eq!(balance, refused(Reason::NoLocked, 272));
+        let accounts = fervolatro::accounts(&book, locked);
+        assert_eq!(accounts, refused(Reason::NoLocked, 272));
+        let pools = fervolatro::pools(&book, locked);
+        assert_eq!(pools, refused(Reason::NoLocked, 272));
+    }
+}
+
+/// One that is read is checked; one that is not may be anything, and names nobody.
+#[test]
+fn locked_books_that_are_read_and_not() {
+    let (book, locked) = test_payment();
+    let refusal = fervolatro::check(&book, Some(b"RCB"));
+    assert_eq!(refusal, refused(Reason::Locked, 272));
+    let worked = worked_book().encode();
+    assert_eq!(fervolatro::check(&worked, Some(b"RCB")), Ok(()));
+    let accounts = fervolatro::accounts(&worked, Some(&locked));
+    assert_eq!(accounts, Ok(vec![7, 9]));
+    let length = fervolatro::length(&worked, Some(&locked), 11);
+    assert_eq!(length, refused(Reason::NoAccount, 0));
 }
 
 /// A header and twelve lines are 24 + 12 x 24 = 312 bytes.
 #[test]
 fn statements_have_just_their_length() {
     let book = worked_book().encode();
-    let length = fervolatro::length(&book, 7);
+    let length = fervolatro::length(&book, None, 7);
     assert_eq!(length, Ok(312));
-    let statement = fervolatro::statement(&book, 7).expect("it is settled");
+    let statement = fervolatro::statement(&book, None, 7).expect("it is settled");
     assert_eq!(Ok(statement.len()), length);
     assert_eq!(statement, worked_statement().encode());
     for account in [0, 8] {
-        let length = fervolatro::length(&book, account);
+        let length = fervolatro::length(&book, None, account);
         assert_eq!(length, refused(Reason::NoAccount, 0));
-        let statement = fervolatro::statement(&book, account);
+        let statement = fervolatro::statement(&book, None, account);
         assert_eq!(statement, refused(Reason::NoAccount, 0));
     }
 }
@@ -131,15 +202,15 @@ fn statements_have_just_their_length() {
 #[test]
 fn the_length_is_the_room_that_a_statement_takes() {
     let book = small_halves_book().encode();
-    let length = fervolatro::length(&book, 7).expect("it is settled");
+    let length = fervolatro::length(&book, None, 7).expect("it is settled");
     assert_eq!(length, 408);
     let mut buffer = vec![7; length];
-    let written = fervolatro::statement_into(&book, 7, &mut buffer[..length - 1]);
+    let written = fervolatro::statement_into(&book, None, 7, &mut buffer[..length - 1]);
     assert_eq!(written, refused(Reason::Buffer, 0));
     assert_eq!(buffer, vec![7; length]);
-    let written = fervolatro::statement_into(&book, 7, &mut buffer);
+    let written = fervolatro::statement_into(&book, None, 7, &mut buffer);
     assert_eq!(written, Ok(length));
-    assert_eq!(fervolatro::statement(&book, 7), Ok(buffer));
+    assert_eq!(fervolatro::statement(&book, None, 7), Ok(buffer));
 }
 
 /// The longest statement has 3 x 600 + 3 x 64 + 10 x 16 = 2,152 lines.
@@ -147,9 +218,9 @@ fn the_length_is_the_room_that_a_statement_takes() {
 fn the_longest_statement_is_written_and_read() {
     let (book, account) = book_of_longest_statement(&mut Random::new(1));
     let book = book.encode();
-    let length = fervolatro::length(&book, account);
+    let length = fervolatro::length(&book, None, account);
     assert_eq!(length, Ok(fervolatro::LARGEST_STATEMENT));
-    let statement = fervolatro::statement(&book, account).expect("it is settled");
+    let statement = fervolatro::statement(&book, None, account).expect("it is settled");
     assert_eq!(Ok(statement.len()), length);
     let read = Statement::read(&statement).expect("it is a statement");
     assert_eq!(read.lines().len(), fervolatro::MOST_LINES);
@@ -248,6 +319,6 @@ fn base_costs_are_costs_of_a_book() {
         assert_eq!(cost, Ok(made));
         let mut book = worked_book();
         book.constraints[0].cost = made.cast_signed();
-        assert_eq!(fervolatro::check(&book.encode()), Ok(()));
+        assert_eq!(fervolatro::check(&book.encode(), None), Ok(()));
     }
 }

@@ -1,4 +1,4 @@
--- `asked::asked_first` meets its contract: the theorem, of what the two calls promise. Assumes nothing.
+-- `asked::asked_first` meets its contract. How the two calls stand to each other. Assumes nothing.
 use borrow.Author.Needs.{needs}
 use Rattle.demands.proofs.Length.{length-is-the-statements}
 use Rattle.asked.proofs.asked_first.Statement.{statement}
@@ -14,7 +14,9 @@ same-length : tie.Need-same-length
 same-length c = search needs
 
 returns : tie.Need-returns
-returns c = length-is-the-statements .calls _ _ _ _ _ _ (c .before .before .before .before .fervolatro-length .ensures) (c .before .before .fervolatro-statement .ensures)
+returns c = length-is-the-statements .calls _ _ _ _ _ _ _ (c .before .before .before .before .fervolatro-length .ensures) (c .before .before .fervolatro-statement .ensures)
 
 pub asked-first-spec : {M : Type 1} → statement M
-asked-first-spec = tie.close (tie.spec fervolatro-length-requires fervolatro-statement-requires same-length returns)
+asked-first-spec =
+    tie.close
+    (tie.spec fervolatro-length-requires fervolatro-statement-requires same-length returns)

@@ -1,18 +1,15 @@
--- `asked::balance` meets its contract: the demands' theorems, of what the call promises. Each element of a lent slice is a byte. Assumes nothing.
+-- `asked::balance` meets its contract. Demands 1 and 2, of what the call promises. Assumes nothing.
 use borrow.Author.Needs.{needs}
 use Rattle.demands.proofs.Demand1.{every-input-is-answered}
 use Rattle.demands.proofs.Demand2.{every-line-and-pool-is-the-guides}
 use Rattle.asked.proofs.balance.Statement.{statement}
 use Rattle.asked.proofs.balance.Tie as tie
-use Rattle.asked.proofs.balance.Reads as reads
-use Rattle.asked.proofs.balance.Lts as lts
-use Rattle.fervolatro.proofs.fervolatro_balance.Reads as fervolatro-balance-reads
 
 fervolatro-balance-requires : tie.Need-fervolatro-balance-requires
 fervolatro-balance-requires c κs = search needs
 
 returns : tie.Need-returns
-returns c = (every-input-is-answered .balance _ _ _ (c .fervolatro-balance .ensures), every-line-and-pool-is-the-guides .balance _ (λ i. c .before .shared-slice-known .given i .fits) _ _ (c .fervolatro-balance .ensures))
+returns c = (every-input-is-answered .balance _ _ _ _ (c .fervolatro-balance .ensures), every-line-and-pool-is-the-guides .balance _ _ (λ i. c .before .before .shared-slice-known .given i .fits) (λ i. c .before .shared-slice-known2 .given i .fits) _ _ (c .fervolatro-balance .ensures))
 
 pub balance-spec : {M : Type 1} → statement M
 balance-spec = tie.close (tie.spec fervolatro-balance-requires returns)

@@ -1,4 +1,4 @@
--- `asked::length` meets its contract: the theorems, of what the call promises. Each element of a lent slice is a byte. Assumes nothing.
+-- `asked::length` meets its contract. Demand 1, and how long a statement is. Assumes nothing.
 use borrow.Author.Needs.{needs}
 use Rattle.demands.proofs.Demand1.{every-input-is-answered}
 use Rattle.demands.proofs.Length.{length-is-the-statements}
@@ -9,7 +9,7 @@ fervolatro-length-requires : tie.Need-fervolatro-length-requires
 fervolatro-length-requires c κs = search needs
 
 returns : tie.Need-returns
-returns c = (every-input-is-answered .length _ _ _ (c .fervolatro-length .ensures), length-is-the-statements .lines _ (λ i. c .before .shared-slice-known .given i .fits) _ _ (c .fervolatro-length .ensures))
+returns c = (every-input-is-answered .length _ _ _ _ (c .fervolatro-length .ensures), length-is-the-statements .lines _ _ (λ i. c .before .before .shared-slice-known .given i .fits) (λ i. c .before .shared-slice-known2 .given i .fits) _ _ (c .fervolatro-length .ensures))
 
 pub length-spec : {M : Type 1} → statement M
 length-spec = tie.close (tie.spec fervolatro-length-requires returns)

@@ -1,11 +1,8 @@
--- `asked::neighbours` meets its contract: the demands' theorems, of what the call promises. Each element of a lent slice is a byte. Assumes nothing.
+-- `asked::neighbours` meets its contract. Demand 3, of what the calls promise. Assumes nothing.
 use borrow.Author.Needs.{needs}
 use Rattle.demands.proofs.Demand3.{no-neighbours-figure, costs-are-public}
 use Rattle.asked.proofs.neighbours.Statement.{statement}
 use Rattle.asked.proofs.neighbours.Tie as tie
-use Rattle.asked.proofs.neighbours.Reads as reads
-use Rattle.asked.proofs.neighbours.Lts as lts
-use Rattle.fervolatro.proofs.fervolatro_statement.Reads as fervolatro-statement-reads
 
 fervolatro-statement-requires : tie.Need-fervolatro-statement-requires
 fervolatro-statement-requires c κs = search needs
@@ -23,8 +20,8 @@ returns : tie.Need-returns
 returns c =
     let first = c .before .before .before .before .before .before .fervolatro-statement .ensures in
     let second = c .before .before .fervolatro-statement2 .ensures in (
-      λ agree equal. no-neighbours-figure .same _ _ _ _ _ _ _ _ agree first (rw (← equal) at second),
-      λ rows way agree made also equal. costs-are-public .made rows way _ _ _ _ _ _ _ _ agree made also first (rw (← equal) at second),
+      λ agree equal. no-neighbours-figure .same _ _ _ _ _ _ _ _ _ _ agree first (rw (← equal) at second),
+      λ rows way agree made also equal. costs-are-public .made rows way _ _ _ _ _ _ _ _ _ _ agree made also first (rw (← equal) at second),
     )
 
 pub neighbours-spec : {M : Type 1} → statement M

@@ -1,8 +1,8 @@
--- `balance::constraint_balance` meets its contract. The mode decides which kind of pool it is. Assumes nothing.
+-- `balance::constraint_balance` meets its contract. By the mode of the constraint. Assumes nothing.
 use borrow.Author.Needs.{needs}
+use Rattle.book.specs.Book.{bookIn}
 use Rattle.accounts.proofs.Parts.{part-energies, part-laid, part-sound}
-use Rattle.balance.proofs.Ends.{of-constraint, end-contingency, end-regulation}
-use Rattle.balance.proofs.Resting.{constraint-rule, constraint-divides}
+use Rattle.balance.proofs.Ends.{shape-0, shape-live}
 use Rattle.balance.proofs.constraint_balance.Statement.{statement}
 use Rattle.balance.proofs.constraint_balance.Tie as tie
 
@@ -18,9 +18,6 @@ part-constraint-row-end c = search needs
 constraint-row-requires : tie.Need-constraint-row-requires
 constraint-row-requires c κs = search needs
 
-accounts-requires : tie.Need-accounts-requires
-accounts-requires c κs = search needs
-
 sub-contingency : tie.Need-sub-contingency
 sub-contingency c = search needs
 
@@ -35,29 +32,24 @@ part-of-requires c κs = search needs
 
 contingency-requires : tie.Need-contingency-requires
 contingency-requires c κs =
-    let row = c .before .before .before .before .before in
-    let start = row .before .before .before in
-    let known = start .pre .1 .0 in
-    let own = of-constraint (start .pre .1 .0) _ (start .pre .1 .1 .0) _ (start .pre .1 .1 .1) _ (row .constraint-row .ensures) in
-    (part-laid (start .args .book .now) (start .args .h) _ (c .part-of .ensures) (start .pre .0), (part-sound (start .args .book .now) (start .args .h) _ (c .part-of .ensures) (known .sound), (constraint-divides known _ own, constraint-rule known _ own .cost)))
+    let s = c .before .before .before .before .before .before .before in
+    let q = c .part-of .ensures in
+    let row = c .before .before .before .before .constraint-row .ensures in
+    let b = s .args .book .now in
+    let h = s .args .h in
+    (part-laid b h _ q (s .pre .0 .0), (part-sound b h _ q (s .pre .1 .0 .0), (rw row (s .pre .1 .0 .1), rw row (s .pre .1 .0 .0 .fields .constraints _ (s .pre .1 .1 .0) .cost))))
 
 returns : tie.Need-returns
-returns c =
-    let row = c .before .before .before .before .before .before in
-    let start = row .before .before .before in
-    end-contingency (start .pre .1 .0) _ (start .pre .1 .1 .0) _ (start .pre .1 .1 .1) _ (row .constraint-row .ensures) (c .before .before .before .if1 .taken) (part-energies (start .args .book .now) (start .args .h) _ (c .before .part-of .ensures)) (c .before .before .before .before .before .accounts .ensures) (c .contingency .ensures)
+returns c = let s = c .before .before .before .before .before .before .before .before in shape-0 (bookIn (s .args .book .now) (s .args .h)) _ _ _ (c .before .before .before .before .before .constraint-row .ensures) (c .before .before .before .if1 .taken) (part-energies (s .args .book .now) (s .args .h) _ (c .before .part-of .ensures)) (c .contingency .ensures)
 
 regulation-requires : tie.Need-regulation-requires
 regulation-requires c κs =
-    let row = c .before .before .before in
-    let start = row .before .before .before in
-    (start .pre .0, (start .pre .1 .0, (of-constraint (start .pre .1 .0) _ (start .pre .1 .1 .0) _ (start .pre .1 .1 .1) _ (row .constraint-row .ensures), c .before .before .accounts .ensures)))
+    let s = c .before .before .before .before .before in
+    let row = c .before .before .constraint-row .ensures in
+    (s .pre .0 .0, (s .pre .1 .0 .0, ((record { place = s .args .j; within = s .pre .1 .1 .0; same = row }, rw row (s .pre .1 .0 .1)), s .pre .0 .1)))
 
 returns-2 : tie.Need-returns-2
-returns-2 c =
-    let row = c .before .before .before .before in
-    let start = row .before .before .before in
-    end-regulation (start .pre .1 .0) _ (start .pre .1 .1 .0) _ (start .pre .1 .1 .1) _ (row .constraint-row .ensures) (c .before .if1 .left) (c .regulation .ensures)
+returns-2 c = let s = c .before .before .before .before .before .before in shape-live (bookIn (s .args .book .now) (s .args .h)) _ _ _ (c .before .before .before .constraint-row .ensures) (c .before .if1 .left) (c .regulation .ensures)
 
 pub constraint-balance-spec : {M : Type 1} → statement M
 constraint-balance-spec =
@@ -67,7 +59,6 @@ constraint-balance-spec =
     part-constraint-row-start
     part-constraint-row-end
     constraint-row-requires
-    accounts-requires
     sub-contingency
     part-contingency-start
     part-contingency-end

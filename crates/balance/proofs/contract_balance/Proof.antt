@@ -1,69 +1,33 @@
--- `balance::contract_balance` meets its contract. The contract stands in the book, and its pool is what all accounts pay. Assumes nothing.
+-- `balance::contract_balance` meets its contract. The energies are those of the book that settles the contract. Assumes nothing.
 use borrow.Author.Needs.{needs}
-use Rattle.book.specs.Book.{bookIn}
-use Rattle.accounts.proofs.Parts.{part-energies, part-laid, part-sound}
-use Rattle.balance.proofs.Ends.{paid-in, end-paid}
+use mathlib.Core.Path.{ap, _∙_}
+use Rattle.totals.specs.Inner.Energies.{Energies}
+use Rattle.balance.specs.Inner.Shapes.{contractShape}
+use Rattle.balance.proofs.Resting.{handed-energies, handed-laid, handed-sound, handed-paid}
 use Rattle.balance.proofs.contract_balance.Statement.{statement}
 use Rattle.balance.proofs.contract_balance.Tie as tie
 
-contracts-at-requires : tie.Need-contracts-at-requires
-contracts-at-requires c κs = search needs
+of-requires : tie.Need-of-requires
+of-requires c κs = search needs
 
-sub-contract-row : tie.Need-sub-contract-row
-sub-contract-row c = search needs
+energies-of-requires : tie.Need-energies-of-requires
+energies-of-requires c κs = search needs
 
-part-contract-row-start : tie.Need-part-contract-row-start
-part-contract-row-start c = search needs
-
-part-contract-row-end : tie.Need-part-contract-row-end
-part-contract-row-end c = search needs
-
-contract-row-requires : tie.Need-contract-row-requires
-contract-row-requires c κs = search needs
-
-accounts-requires : tie.Need-accounts-requires
-accounts-requires c κs = search needs
-
-sub-contract : tie.Need-sub-contract
-sub-contract c = search needs
-
-part-contract-start : tie.Need-part-contract-start
-part-contract-start c = search needs
-
-part-contract-end : tie.Need-part-contract-end
-part-contract-end c = search needs
-
-part-of-requires : tie.Need-part-of-requires
-part-of-requires c κs = search needs
+part-in-requires : tie.Need-part-in-requires
+part-in-requires c κs = search needs
 
 contract-requires : tie.Need-contract-requires
 contract-requires c κs =
-    let start = c .before .before .before .before .before .before .before in
-    let book = start .args .book .now in
-    let h = start .args .h in
-    let e = c .part-of .ensures in
-    (part-laid book h _ e (start .pre .0), (part-sound book h _ e (start .pre .1 .0 .sound), (paid-in {B = bookIn book h} (start .pre .1 .0) _ (start .pre .1 .1) _ (rw (c .before .before .before .before .before .contracts-at .ensures) at (c .before .before .before .contract-row .ensures)), c .before .before .accounts .ensures .few)))
+    let s = c .before .before .before .before .before in
+    let from = c .before .before .of .ensures in
+    let handed = c .before .energies-of .ensures in
+    let part = c .part-in .ensures in
+    (handed-laid (s .args .book .now) (s .args .h) (s .args .locked .now) (s .args .l) (s .args .k) from handed part (s .pre .0 .0 .0) (s .pre .0 .0 .1), (handed-sound (s .args .book .now) (s .args .h) (s .args .locked .now) (s .args .l) (s .args .k) from handed part (s .pre .1 .0 .0) (s .pre .1 .0 .1), (handed-paid (s .args .book .now) (s .args .h) (s .args .locked .now) (s .args .l) (s .args .k) from handed part (s .pre .1 .1), s .pre .0 .1)))
 
 returns : tie.Need-returns
-returns c =
-    let start = c .before .before .before .before .before .before .before .before in
-    let book = start .args .book .now in
-    let h = start .args .h in
-    end-paid {B = bookIn book h} (start .pre .1 .0) _ (start .pre .1 .1) _ (rw (c .before .before .before .before .before .before .contracts-at .ensures) at (c .before .before .before .before .contract-row .ensures)) (part-energies book h _ (c .before .part-of .ensures)) (c .before .before .before .accounts .ensures) (c .contract .ensures)
+returns c = let s = c .before .before .before .before .before .before in c .contract .ensures ∙ ap (λ (E : Energies). contractShape E (s .args .count) (s .args .k)) (handed-energies (s .args .book .now) (s .args .h) (s .args .locked .now) (s .args .l) (s .args .k) (c .before .before .before .of .ensures) (c .before .before .energies-of .ensures) (c .before .part-in .ensures))
 
 pub contract-balance-spec : {M : Type 1} → statement M
 contract-balance-spec =
     tie.close
-    (tie.spec
-    contracts-at-requires
-    sub-contract-row
-    part-contract-row-start
-    part-contract-row-end
-    contract-row-requires
-    accounts-requires
-    sub-contract
-    part-contract-start
-    part-contract-end
-    part-of-requires
-    contract-requires
-    returns)
+    (tie.spec of-requires energies-of-requires part-in-requires contract-requires returns)

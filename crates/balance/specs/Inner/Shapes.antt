@@ -1,10 +1,9 @@
 -- The balance of each kind of pool, by what its unit rows and its energies come to. Only contracts of inner functions speak of these; proofs/ ties
 -- them to the balance's own definition.
 use Prim.Native.Nat.{ℕ, _+_, _*_}
-use mathlib.Core.Bool.{Bool, false, not}
+use mathlib.Core.Bool.{Bool, false, not, cond}
 use lib.Dec.{eqb}
 use lib.IntN.{pos}
-use lib.ListN.{length}
 use Rattle.numbers.specs.Sign.{less}
 use Rattle.sections.specs.Total.{total}
 use Rattle.records.specs.declared.rows.Constraint.{Constraint}
@@ -15,7 +14,6 @@ use Rattle.amounts.specs.Pools.{poolsOf, residualPools}
 use Rattle.accounts.specs.Inner.Energies.{energiesOf}
 use Rattle.recovery.specs.Recovers.{recovers, benefiting}
 use Rattle.recovery.specs.Inner.Shapes.{poolBy, creditBy, chargeBy, unitRows, unitCredit, unitCharge, regionPaid, sharedSum}
-use Rattle.balance.specs.Balance.{accountsOf}
 use Rattle.balance.specs.declared.Balance.{Balance}
 use Rattle.recovery.specs.declared.kinds.Kind.{Kind}
 use Rattle.recovery.specs.declared.kinds.Kind.the-variants.{Contingency, Fpp, Used, Unused, Payment}
@@ -38,16 +36,21 @@ contingencyShape E accounts r =
       sum = less 0 (sharedSum E r (r .cost));
     }
 
-unfoldable pub regulationShape : Book → Constraint → Kind → Balance
-regulationShape B r kind =
+unfoldable pub regulationShape : Book → ℕ → Constraint → Kind → Balance
+regulationShape B accounts r kind =
     record {
       amount = pos (recovers r kind);
-      lines = unitRows (B .unit) (B .header .units) (r .id) + length (accountsOf B);
+      lines = unitRows (B .unit) (B .header .units) (r .id) + accounts;
       sum =
           less
           (unitCredit (B .unit) (B .header .units) (r .id) kind (poolBy kind (poolsOf r)) + sharedSum (energiesOf B) r (creditBy kind (residualPools r (poolsOf r))))
           (unitCharge (B .unit) (B .header .units) (r .id) kind (poolBy kind (poolsOf r)) + sharedSum (energiesOf B) r (chargeBy kind (residualPools r (poolsOf r))));
     }
+
+-- of a constraint, by its mode
+unfoldable pub constraintShape : Book → ℕ → Constraint → Kind → Balance
+constraintShape B accounts r kind =
+    cond (eqb (r .mode) 0) (contingencyShape (energiesOf B) accounts r) (regulationShape B accounts r kind)
 
 -- two lines of each account in each benefiting region
 unfoldable pub contractShape : Energies → ℕ → Contract → Balance

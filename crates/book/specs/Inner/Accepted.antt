@@ -1,7 +1,7 @@
 -- What a sound book and an accepted book promise, for whoever builds on them: no check need be opened again.
 use Prim.Native.Nat.{ℕ, _+_, _≤_, _<_}
 use mathlib.Core.Path.{_≡_}
-use mathlib.Core.Bool.{true, _&&_, cond}
+use mathlib.Core.Bool.{true, false, _&&_, cond}
 use mathlib.Core.List.{List}
 use lib.Dec.{eqb}
 use lib.ListN.{length}
@@ -20,7 +20,10 @@ use Rattle.totals.specs.Inner.Facts.{SumsTo}
 use Rattle.totals.specs.Divisors.{overRegions}
 use Rattle.totals.specs.Inner.Facts.{Funded}
 use Rattle.book.specs.Header.{headerOf, wholeLength}
-use Rattle.book.specs.Book.{Book, bookOf}
+use Rattle.locking.specs.Locking.{readsLocked}
+use Rattle.book.specs.declared.header.Header.{Header}
+use Rattle.book.specs.Book.{Book, bookIn, bookOf}
+use Rattle.book.specs.Table.{entriesBy, lockedFor}
 use Rattle.book.specs.Inner.Facts.{Few, Fields, Ordered, Named}
 
 -- the sum of a number over the energy rows of one account in one region
@@ -78,15 +81,26 @@ pub record SoundBook (b : List ℕ) : Type 0 where
   pub long : length b ≡ wholeLength (headerOf b)
   pub sound : Sound (bookOf b)
 
--- what all ten promise of its records: it is sound, and every total to divide by is there
-pub record Promise (B : Book) : Type 0 where
+-- s is the book that the test payments of b are settled by, where h is its header and l was lent as the locked one
+pub record SettlesTests (b : List ℕ) (h : Header) (l s : List ℕ) : Type 0 where
+  pub bytes : s ≡ cond (readsLocked (bookIn b h .contract) (h .contracts)) l b
+
+-- so where b has no test payments, s is b itself
+pub record StandsIn (b : List ℕ) (h : Header) (s : List ℕ) : Type 0 where
+  pub unread : readsLocked (bookIn b h .contract) (h .contracts) ≡ false → s ≡ b
+
+-- what acceptance promises of its records and of those of the book that test payments are settled by, L: both are sound, and every total to
+-- divide by is there
+pub record Promise (B L : Book) : Type 0 where
   pub sound : Sound B
+  pub locked : Sound L
   -- what a constraint divides by is not 0
   pub divisor : (j : ℕ) → j < B .header .constraints → 0 < overRegions (B .entry) (B .constraint j)
-  -- nor are the totals of a region that a contract benefits
-  pub funded : (k : ℕ) → k < B .header .contracts → (g : ℕ) → g < 5 → (factorOf (B .contract k .factors) g ≡ 0 → ⊥) → Funded (B .entry g)
+  -- nor are the totals of a region that a contract benefits, in the book that settles it
+  pub funded : (k : ℕ) → k < B .header .contracts → (g : ℕ) → g < 5 → (factorOf (B .contract k .factors) g ≡ 0 → ⊥) → Funded (entriesBy B L (B .contract k) g)
 
--- and of its bytes
-pub record AcceptedBook (b : List ℕ) : Type 0 where
+-- and of the bytes of both
+pub record AcceptedBook (b l : List ℕ) : Type 0 where
   pub long : length b ≡ wholeLength (headerOf b)
-  pub promise : Promise (bookOf b)
+  pub locked : length (lockedFor b l) ≡ wholeLength (headerOf (lockedFor b l))
+  pub promise : Promise (bookOf b) (bookOf (lockedFor b l))

@@ -42,15 +42,6 @@ part-contracts-start c = search needs
 part-contracts-end : tie.Need-part-contracts-end
 part-contracts-end c = search needs
 
-sub-contracts-2 : tie.Need-sub-contracts-2
-sub-contracts-2 c = search needs
-
-part-contracts-start-2 : tie.Need-part-contracts-start-2
-part-contracts-start-2 c = search needs
-
-part-contracts-end-2 : tie.Need-part-contracts-end-2
-part-contracts-end-2 c = search needs
-
 cast-contracts : tie.Need-cast-contracts
 cast-contracts c = search needs
 
@@ -59,14 +50,14 @@ contracts-requires c κs = search needs
 
 at-record-requires : tie.Need-at-record-requires
 at-record-requires c κs =
-    let shared = c .before .before .before .before in
-    let start = shared .before .before .before .before .before .before .pre in
-    (omega arith, λ i f. omega (arith, bad-within _ _ f (shared .constraints .ensures), start .few .constraints))
+    let shared = c .before .before .before in
+    let start = shared .before .before .before .before .before .before .before .pre in
+    (omega arith, λ i f. omega (arith, bad-within _ _ f (shared .constraints .ensures), start .0 .few .constraints))
 
 at-record-requires-2 : tie.Need-at-record-requires-2
 at-record-requires-2 c κs =
-    let contracts = c .before .before .before .before .before .before .before .before .before in
-    let few = contracts .before .before .pre .few in
+    let contracts = c .before .before .before .before .before .before .before .before in
+    let few = contracts .before .before .before .pre .0 .few in
     (omega (arith, contracts .contracts-at .ensures, few), λ i f. omega (arith, bad-within _ _ f (c .before .contracts .ensures), few .contracts))
 
 earlier-requires : tie.Need-earlier-requires
@@ -75,9 +66,10 @@ earlier-requires c κs = search needs
 returns : tie.Need-returns
 returns c =
     let paid = c .before .before .before in
-    let shared = paid .before .before .before .before in
+    let shared = paid .before .before .before in
     let contracts = shared .before .before .before .before in
-    check10-is (contracts .before .before .args .book .now) _
+    let args = contracts .before .before .before .args in
+    check10-is (args .book .now) _ (args .locked .now)
     (contracts .contracts-at .ensures)
     (shared .constraints .ensures)
     (paid .contracts .ensures)
@@ -99,9 +91,6 @@ zero-totals-spec =
     sub-contracts
     part-contracts-start
     part-contracts-end
-    sub-contracts-2
-    part-contracts-start-2
-    part-contracts-end-2
     cast-contracts
     contracts-requires
     at-record-requires

@@ -14,7 +14,9 @@ use Rattle.records.specs.declared.rows.Contract.{Contract}
 use Rattle.factors.specs.Naming.{idOf, keyOf}
 use Rattle.factors.specs.Inner.Runs.{Walked}
 use Rattle.totals.specs.declared.entries.Totals.{Totals}
+use Rattle.locking.specs.declared.Source.{Source}
 use Rattle.accounts.specs.Rows.{joined}
+use Rattle.accounts.specs.declared.energies.OwnEnergies.{OwnEnergies}
 use Rattle.book.specs.Book.{Book}
 use Rattle.lines.specs.Lines.{regionLines}
 use Rattle.groups.specs.Inner.Each.{eachOf}
@@ -66,10 +68,10 @@ pub record ContractCounted (k : Contract) (x : ℕ) : Type 0 where
   pub few : x ≤ 10
 
 pub record ContractsCounted (contract : ℕ → Contract) (n x : ℕ) : Type 0 where
-  pub lines : (entry own : ℕ → Entry) → x ≡ length (joined (contractLinesAt entry own contract) n)
+  pub lines : (entry own : Source → ℕ → Entry) → x ≡ length (joined (contractLinesAt entry own contract) n)
   pub few : x ≤ n * 10
 
--- all lines of an account
+-- all lines of an account, whatever book settles the test payments
 pub record BookCounted (B : Book) (account x : ℕ) : Type 0 where
-  pub lines : (own : Totals) → x ≡ length (bookLines B account own)
+  pub lines : (L : Book) (own : OwnEnergies) → x ≡ length (bookLines B L account own)
   pub few : x ≤ 200_000

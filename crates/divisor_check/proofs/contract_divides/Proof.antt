@@ -1,40 +1,28 @@
--- `divisor_check::contract_divides` meets its contract. The five regions are tested one after the other, each by its own factor. Assumes nothing.
+-- `divisor_check::contract_divides` meets its contract. The entries are those of the book that settles the contract. Assumes nothing.
 use borrow.Author.Needs.{needs}
-use Rattle.sections.specs.Search.{all}
 use Rattle.totals.specs.Divisors.{contractDivides}
+use Rattle.locking.proofs.Section.{picked-entries, picked-room}
 use Rattle.divisor_check.proofs.contract_divides.Statement.{statement}
 use Rattle.divisor_check.proofs.contract_divides.Tie as tie
 
 contract-row-requires : tie.Need-contract-row-requires
 contract-row-requires c κs = search needs
 
-funded-requires : tie.Need-funded-requires
-funded-requires c κs = search needs
+of-requires : tie.Need-of-requires
+of-requires c κs = search needs
 
-funded-requires-2 : tie.Need-funded-requires-2
-funded-requires-2 c κs = search needs
+energies-of-requires : tie.Need-energies-of-requires
+energies-of-requires c κs = search needs
 
-funded-requires-3 : tie.Need-funded-requires-3
-funded-requires-3 c κs = search needs
-
-funded-requires-4 : tie.Need-funded-requires-4
-funded-requires-4 c κs = search needs
-
-funded-requires-5 : tie.Need-funded-requires-5
-funded-requires-5 c κs = search needs
+all-funded-requires : tie.Need-all-funded-requires
+all-funded-requires c κs =
+    let start = c .before .before .before .before .before .before .before in
+    picked-room (c .before .energies-of .ensures) (start .pre .0) (start .pre .1 .0)
 
 returns : tie.Need-returns
-unfolding contractDivides all
-returns c = rw (c .funded5 .ensures, c .before .funded4 .ensures, c .before .before .funded3 .ensures, c .before .before .before .funded2 .ensures, c .before .before .before .before .funded .ensures, c .before .before .before .before .before .before .contract-row .ensures)
+unfolding contractDivides
+returns c =
+    rw (c .all-funded .ensures, picked-entries (c .before .before .energies-of .ensures), c .before .before .before .of .ensures, c .before .before .before .before .contract-row .ensures)
 
 pub contract-divides-spec : {M : Type 1} → statement M
-contract-divides-spec =
-    tie.close
-    (tie.spec
-    contract-row-requires
-    funded-requires
-    funded-requires-2
-    funded-requires-3
-    funded-requires-4
-    funded-requires-5
-    returns)
+contract-divides-spec = tie.close (tie.spec contract-row-requires of-requires energies-of-requires all-funded-requires returns)

@@ -3,19 +3,21 @@ use Prim.Native.Nat.{_≤_, _-_}
 use mathlib.Core.Path.{_≡_}
 use native.Mathlib.Omega.{arith}
 use borrow.Author.Needs.{needs}
+use Rattle.ground.specs.Bytes.{partFrom}
 use Rattle.sections.specs.First.{firstBad}
 use Rattle.sections.specs.declared.Checked.the-variants.{Good}
 use Rattle.sections.proofs.First.{first-none, first-more, first-stop, first-all}
 use Rattle.records.specs.Rows.{entryRow, contractRow}
 use Rattle.totals.specs.Divisors.{contractDivides}
+use Rattle.locking.specs.Locking.{pick, settledBy}
 use Rattle.divisor_check.proofs.contracts.Statement.{statement}
 use Rattle.divisor_check.proofs.contracts.Tie as tie
 
 abbrev Inv-loop : tie.InvT-loop
-Inv-loop regions contracts n k₀ k = (k ≤ n) × (firstBad (contractDivides (entryRow regions) (contractRow contracts)) k ≡ Good)
+Inv-loop book locked contracts n k₀ k = (k ≤ n) × (firstBad (λ k. contractDivides (pick (settledBy (contractRow contracts k)) (entryRow (partFrom 24 book)) (entryRow (partFrom 24 locked))) (contractRow contracts) k) k ≡ Good)
 
 abbrev μ-loop : tie.MeasureT-loop
-μ-loop regions contracts n k₀ k = n - k
+μ-loop book locked contracts n k₀ k = n - k
 
 loop-holds : tie.Need-loop-holds Inv-loop μ-loop
 loop-holds c = (search needs, first-none _)

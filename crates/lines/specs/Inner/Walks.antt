@@ -21,6 +21,9 @@ use Rattle.totals.specs.declared.entries.Totals.{Totals}
 use Rattle.amounts.specs.Pools.{poolsOf, residualPools}
 use Rattle.amounts.specs.declared.pools.Pools.{Pools}
 use Rattle.accounts.specs.Rows.{joined}
+use Rattle.accounts.specs.declared.energies.OwnEnergies.{OwnEnergies}
+use Rattle.locking.specs.Locking.{settledBy, pick}
+use Rattle.locking.specs.declared.Source.{Source}
 use Rattle.book.specs.Book.{Book}
 use Rattle.statement.specs.declared.Line.{Line}
 use Rattle.lines.specs.Lines.{contingencyLine, unitLines, restLines, regionLines}
@@ -62,9 +65,9 @@ pub record Ready (entry : ℕ → Entry) (con : ℕ → Constraint) (n : ℕ) (u
   pub energy : (g : ℕ) → g < 5 → EntryRule (entryOf own g)
   pub shared : (j : ℕ) → j < n → Shared (overRegions (entryOf own) (con j)) (overRegions entry (con j))
 
--- contract i's lines, its regions rising
-unfoldable pub contractLinesAt : (ℕ → Entry) → (ℕ → Entry) → (ℕ → Contract) → ℕ → List Line
-contractLinesAt entry own contract i = joined (regionLines entry own (contract i)) 5
+-- contract i's lines, its regions rising; entry s and own s are the totals and the account's energies in the current and in the locked book
+unfoldable pub contractLinesAt : (Source → ℕ → Entry) → (Source → ℕ → Entry) → (ℕ → Contract) → ℕ → List Line
+contractLinesAt entry own contract i = joined (regionLines (entry (settledBy (contract i))) (own (settledBy (contract i))) (contract i)) 5
 
 -- what settling a contract rests on
 pub record ContractSettles (entry : ℕ → Entry) (k : Contract) (own : Totals) : Type 0 where
@@ -72,13 +75,29 @@ pub record ContractSettles (entry : ℕ → Entry) (k : Contract) (own : Totals)
   pub ace : (g : ℕ) → g < 5 → (factorOf (k .factors) g ≡ 0 → ⊥) → Shared (entryOf own g .ace) (entry g .ace)
   pub asoe : (g : ℕ) → g < 5 → (factorOf (k .factors) g ≡ 0 → ⊥) → Shared (entryOf own g .asoe) (entry g .asoe)
 
--- all lines of an account as the walk meets them
-unfoldable pub bookLines : Book → ℕ → Totals → List Line
-bookLines B account own =
-    joined (conLinesAt (B .entry) (B .constraint) (B .unit) (B .header .units) account own) (B .header .constraints)
-    ++ joined (contractLinesAt (B .entry) (entryOf own) (B .contract)) (B .header .contracts)
+-- the totals and an account's own energies by which a contract is settled
+abbrev pub totalsFrom : (ℕ → Entry) → (ℕ → Entry) → Source → ℕ → Entry
+totalsFrom current locked s = pick s current locked
+
+abbrev pub ownFrom : OwnEnergies → Source → ℕ → Entry
+ownFrom own s = entryOf (pick s (own .current) (own .locked))
+
+-- all lines of an account as the walk meets them; L is the book that test payments are settled by
+unfoldable pub bookLines : Book → Book → ℕ → OwnEnergies → List Line
+bookLines B L account own =
+    joined (conLinesAt (B .entry) (B .constraint) (B .unit) (B .header .units) account (own .current)) (B .header .constraints)
+    ++ joined (contractLinesAt (totalsFrom (B .entry) (L .entry)) (ownFrom own) (B .contract)) (B .header .contracts)
+
+-- those of contract k
+abbrev pub settledLines : (ℕ → Entry) → (ℕ → Entry) → OwnEnergies → Contract → List Line
+settledLines current locked own k = joined (regionLines (totalsFrom current locked (settledBy k)) (ownFrom own (settledBy k)) k) 5
+
+-- what it rests on
+abbrev pub SettledIn : (ℕ → Entry) → (ℕ → Entry) → OwnEnergies → Contract → Type 0
+SettledIn current locked own k =
+    ContractSettles (totalsFrom current locked (settledBy k)) k (pick (settledBy k) (own .current) (own .locked))
 
 -- what the walk over a book rests on
-pub record Walkable (B : Book) (own : Totals) : Type 0 where
-  pub ready : Ready (B .entry) (B .constraint) (B .header .constraints) (B .unit) (B .header .units) own
-  pub payable : (k : ℕ) → k < B .header .contracts → ContractSettles (B .entry) (B .contract k) own
+pub record Walkable (B L : Book) (own : OwnEnergies) : Type 0 where
+  pub ready : Ready (B .entry) (B .constraint) (B .header .constraints) (B .unit) (B .header .units) (own .current)
+  pub payable : (k : ℕ) → k < B .header .contracts → SettledIn (B .entry) (L .entry) own (B .contract k)

@@ -1,7 +1,9 @@
--- `settlement::settle` meets its contract. The length is refused, or the buffer is shorter, or the statement is written. Assumes nothing.
-use Rattle.book.specs.Book.{bookIn}
-use Rattle.settlement.proofs.Ends.{end-refused, end-13, walk-of, fits-in, end-written}
+-- `settlement::settle` meets its contract. What the length is refused for, then 13; else the lines are written. Assumes nothing.
 use borrow.Author.Needs.{needs}
+use native.Mathlib.Omega.{arith}
+use Rattle.book.specs.Book.{bookIn, bookOf}
+use Rattle.settlement.proofs.Owned.{own-there}
+use Rattle.settlement.proofs.Ends.{end-refused, end-13, walk-of, fits-in, end-written}
 use Rattle.settlement.proofs.settle.Statement.{statement}
 use Rattle.settlement.proofs.settle.Tie as tie
 
@@ -15,19 +17,18 @@ enum-known-n : tie.Need-enum-known-n
 enum-known-n c = search needs
 
 returns : tie.Need-returns
-returns c =
-    let w = c .before .before .before .before in
-    let s = w .before .before .before .before .before in
-    end-13 (bookIn (s .args .book .now) (s .args .h)) _ (s .pre .1) (w .before .before .held-by .ensures) _ (w .sized .ensures) (c .before .before .n .given .1) (c .if1 .taken)
+returns c = let s = c .before .before .before .before .before .before .before .before .before in end-13 (bookIn (s .args .book .now) (s .args .h)) (bookOf (s .args .locked .now)) _ (s .pre .1 .0) (own-there _ _ _) _ (c .before .before .before .before .sized .ensures) (c .before .before .n .given .1) (c .if1 .taken)
+
+own-in-both-requires : tie.Need-own-in-both-requires
+own-in-both-requires c κs = search needs
 
 write-requires : tie.Need-write-requires
 write-requires c κs =
-    let w = c .before .before .before .before .before in
-    let s = w .before .before .before .before .before in
-    let B = bookIn (s .args .book .now) (s .args .h) in
-    let held = w .before .before .held-by .ensures in
-    let n = c .before .before .before .n .given .1 in
-    (s .pre .0, (walk-of B _ (s .pre .1) held (s .args .buffer .now) (w .sized .ensures) n, fits-in B _ (s .pre .1) held (s .args .buffer .now) (w .sized .ensures) n (c .before .if1 .left)))
+    let s = c .before .before .before .before .before .before .before .before .before .before .before in
+    let own = c .before .own-in-both .ensures in
+    let size = c .before .before .before .before .before .before .sized .ensures in
+    let told = c .before .before .before .before .n .given .1 in
+    (s .pre .0 .0 .0, (omega (arith, s .pre .0 .1 .long), (walk-of (bookIn (s .args .book .now) (s .args .h)) (bookOf (s .args .locked .now)) _ (s .pre .1 .0) own (s .args .buffer .now) size told, fits-in (bookIn (s .args .book .now) (s .args .h)) (bookOf (s .args .locked .now)) _ (s .pre .1 .0) own (s .args .buffer .now) size told (c .before .before .if1 .left))))
 
 enum-known-number : tie.Need-enum-known-number
 enum-known-number c = search needs
@@ -37,15 +38,11 @@ same-length c = search needs
 
 returns-2 : tie.Need-returns-2
 returns-2 c =
-    let w = c .before .before .before .before .before .before .before .before in
-    let s = w .before .before .before .before .before in
-    end-written (bookIn (s .args .book .now) (s .args .h)) _ (s .pre .1) (w .before .before .held-by .ensures) _ (w .sized .ensures) (c .before .before .before .before .before .before .n .given .1) (c .before .before .before .before .if1 .left) (c .before .before .write .ensures)
+    let s = c .before .before .before .before .before .before .before .before .before .before .before .before .before .before in
+    end-written (bookIn (s .args .book .now) (s .args .h)) (bookOf (s .args .locked .now)) _ (s .pre .1 .0) (c .before .before .before .before .own-in-both .ensures) _ (c .before .before .before .before .before .before .before .before .before .sized .ensures) (c .before .before .before .before .before .before .before .n .given .1) (c .before .before .before .before .before .if1 .left) (c .before .before .write .ensures)
 
 returns-3 : tie.Need-returns-3
-returns-3 c =
-    let w = c .before .before .before in
-    let s = w .before .before .before .before .before in
-    end-refused (bookIn (s .args .book .now) (s .args .h)) _ (s .pre .1) (w .before .before .held-by .ensures) _ (w .sized .ensures) (c .before .number .given .1)
+returns-3 c = let s = c .before .before .before .before .before .before .before .before in end-refused (bookIn (s .args .book .now) (s .args .h)) (bookOf (s .args .locked .now)) _ (s .pre .1 .0) (own-there _ _ _) _ (c .before .before .before .sized .ensures) (c .before .number .given .1)
 
 pub settle-spec : {M : Type 1} → statement M
 settle-spec =
@@ -55,6 +52,7 @@ settle-spec =
     sized-requires
     enum-known-n
     returns
+    own-in-both-requires
     write-requires
     enum-known-number
     same-length

@@ -5,6 +5,9 @@ use borrow.Author.Needs.{needs}
 use Rattle.text.proofs.put_outcome.Statement.{statement}
 use Rattle.text.proofs.put_outcome.Tie as tie
 
+slice-aggregate-length : tie.Need-slice-aggregate-length
+slice-aggregate-length c = search needs
+
 length-requires : tie.Need-length-requires
 length-requires c κs = search needs
 
@@ -14,7 +17,7 @@ enum-known-n c = search needs
 put-settled-requires : tie.Need-put-settled-requires
 put-settled-requires c κs =
     let asked = c .before .before .before .before in
-    (asked .before .before .before .pre, sym (c .before .before .n .given .1) ∙ asked .length .ensures)
+    (asked .before .before .before .before .pre, sym (c .before .before .n .given .1) ∙ asked .length .ensures)
 
 enum-known-number : tie.Need-enum-known-number
 enum-known-number c = search needs
@@ -38,6 +41,7 @@ pub put-outcome-spec : {M : Type 1} → statement M
 put-outcome-spec =
     tie.close
     (tie.spec
+    slice-aggregate-length
     length-requires
     enum-known-n
     put-settled-requires

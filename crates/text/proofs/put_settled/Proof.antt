@@ -9,15 +9,18 @@ use Rattle.text.proofs.put_settled.Tie as tie
 room-requires : tie.Need-room-requires
 room-requires c κs = search needs
 
+slice-aggregate-statement : tie.Need-slice-aggregate-statement
+slice-aggregate-statement c = search needs
+
 array-borrow-prefix-buffer : tie.Need-array-borrow-prefix-buffer
 array-borrow-prefix-buffer c =
-    let room = c in
+    let room = c .before in
     let s = room .before .before .before in
     fits (s .args .book .now) (s .args .account) (λ i. room .before .shared-slice-known .given i .fits) (s .fits .account .fits) (s .pre .1) (room .room .result) (room .room .ensures)
 
-slice-aggregate-statement : tie.Need-slice-aggregate-statement
-slice-aggregate-statement c =
-    let room = c .before in
+slice-aggregate-statement-2 : tie.Need-slice-aggregate-statement-2
+slice-aggregate-statement-2 c =
+    let room = c .before .before in
     let s = room .before .before .before in
     sym (length-take-le _ _ (fits (s .args .book .now) (s .args .account) (λ i. room .before .shared-slice-known .given i .fits) (s .fits .account .fits) (s .pre .1) (room .room .result) (room .room .ensures)))
 
@@ -26,19 +29,19 @@ statement-requires c κs = search needs
 
 array-share-prefix-buffer : tie.Need-array-share-prefix-buffer
 array-share-prefix-buffer c =
-    let room = c .before .before .before .before in
+    let room = c .before .before .before .before .before in
     let s = room .before .before .before in
     lies (s .args .book .now) (s .args .account) (λ i. room .before .shared-slice-known .given i .fits) (s .fits .account .fits) (s .pre .1) (room .room .result) (room .room .ensures) (c .before .before .statement .ensures)
 
 slice-aggregate-put-statement : tie.Need-slice-aggregate-put-statement
 slice-aggregate-put-statement c =
-    let room = c .before .before .before .before .before in
+    let room = c .before .before .before .before .before .before in
     let s = room .before .before .before in
     sym (length-take-le _ _ (lies (s .args .book .now) (s .args .account) (λ i. room .before .shared-slice-known .given i .fits) (s .fits .account .fits) (s .pre .1) (room .room .result) (room .room .ensures) (c .before .before .before .statement .ensures)))
 
 put-statement-requires : tie.Need-put-statement-requires
 put-statement-requires c κs =
-    let room = c .before .before .before .before .before in
+    let room = c .before .before .before .before .before .before in
     let s = room .before .before .before in
     (is-statement (s .args .book .now) (s .args .account) (λ i. room .before .shared-slice-known .given i .fits) (s .fits .account .fits) (s .pre .1) (room .room .result) (room .room .ensures) (c .before .before .before .statement .ensures), s .pre .0)
 
@@ -47,7 +50,7 @@ same-length c = search needs
 
 returns : tie.Need-returns
 returns c =
-    let room = c .before .before .before .before .before .before .before .before in
+    let room = c .before .before .before .before .before .before .before .before .before in
     let s = room .before .before .before in
     said-given (s .args .book .now) (s .args .account) (λ i. room .before .shared-slice-known .given i .fits) (s .fits .account .fits) (s .pre .1) (room .room .result) (room .room .ensures) (c .before .before .before .before .before .before .statement .ensures) (c .before .before .put-statement .ensures)
 
@@ -56,8 +59,9 @@ put-settled-spec =
     tie.close
     (tie.spec
     room-requires
-    array-borrow-prefix-buffer
     slice-aggregate-statement
+    array-borrow-prefix-buffer
+    slice-aggregate-statement-2
     statement-requires
     array-share-prefix-buffer
     slice-aggregate-put-statement

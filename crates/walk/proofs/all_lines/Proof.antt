@@ -1,7 +1,9 @@
 -- `walk::all_lines` meets its contract. The constraints' lines, and then the contracts'. Assumes nothing.
-use mathlib.Core.Path.{_∙_}
 use borrow.Author.Needs.{needs}
+use mathlib.Core.Path.{_∙_}
+use native.Mathlib.Omega.{arith}
 use Rattle.emission.proofs.Emission.{emitted-length}
+use Rattle.book.specs.Header.{headerOf}
 use Rattle.book.proofs.Room.{entries-room, constraints-room, units-room, contracts-room}
 use Rattle.lines.proofs.Parts.{ready-at, payable-at}
 use Rattle.walk.proofs.AllLines.{first-room, second-room, both-out}
@@ -51,11 +53,11 @@ constraints-requires : tie.Need-constraints-requires
 constraints-requires c κs =
     let k = c .before .before .before .before .before .before in
     let u = k .before in
-    let s = u .before .before .before in (
+    let s = u .before .before .before .before in (
       (entries-room _ _ (s .pre .0), (constraints-room _ _ (s .pre .0), units-room _ _ (s .pre .0) _ (u .units-at .ensures))),
       (
-        ready-at (s .args .book .now) (s .args .h) (s .args .account) (s .args .own) _ (u .units-at .ensures) (s .pre .1 .0),
-        first-room (s .args .book .now) (s .args .h) (s .args .account) (s .args .own) _ _ (u .units-at .ensures) (k .contracts-at .ensures) (s .pre .1 .1),
+        ready-at (s .args .book .now) (s .args .h) (s .args .locked .now) (headerOf (s .args .locked .now)) (s .args .account) (s .args .own) _ (u .units-at .ensures) (s .pre .1 .1 .0),
+        first-room (s .args .book .now) (s .args .h) (s .args .locked .now) (headerOf (s .args .locked .now)) (s .args .account) (s .args .own) _ _ (u .units-at .ensures) (k .contracts-at .ensures) (s .pre .1 .1 .1),
       ),
     )
 
@@ -68,41 +70,32 @@ part-contracts-start c = search needs
 part-contracts-end : tie.Need-part-contracts-end
 part-contracts-end c = search needs
 
-sub-contracts-2 : tie.Need-sub-contracts-2
-sub-contracts-2 c = search needs
-
-part-contracts-start-2 : tie.Need-part-contracts-start-2
-part-contracts-start-2 c = search needs
-
-part-contracts-end-2 : tie.Need-part-contracts-end-2
-part-contracts-end-2 c = search needs
-
 cast-contracts : tie.Need-cast-contracts
 cast-contracts c = search needs
 
 contracts-requires : tie.Need-contracts-requires
 contracts-requires c κs =
-    let o = c .before .before .before .before .before .before in
+    let o = c .before .before .before .before .before in
     let k = o .before .before .before .before .before .before .before in
     let u = k .before in
-    let s = u .before .before .before in (
-      (entries-room _ _ (s .pre .0), contracts-room _ _ (s .pre .0) _ (k .contracts-at .ensures)),
+    let s = u .before .before .before .before in (
+      (omega (arith, s .pre .0 .long), (s .pre .1 .0, contracts-room _ _ (s .pre .0) _ (k .contracts-at .ensures))),
       (
-        payable-at (s .args .book .now) (s .args .h) (s .args .account) (s .args .own) _ (k .contracts-at .ensures) (s .pre .1 .0),
-        second-room (s .args .book .now) (s .args .h) (s .args .account) (s .args .own) _ _ (u .units-at .ensures) (k .contracts-at .ensures) (o .constraints .ensures) (s .pre .1 .1),
+        payable-at (s .args .book .now) (s .args .h) (s .args .locked .now) (headerOf (s .args .locked .now)) (s .args .account) (s .args .own) _ (k .contracts-at .ensures) (s .pre .1 .1 .0),
+        second-room (s .args .book .now) (s .args .h) (s .args .locked .now) (headerOf (s .args .locked .now)) (s .args .account) (s .args .own) _ _ (u .units-at .ensures) (k .contracts-at .ensures) (o .constraints .ensures) (s .pre .1 .1 .1),
       ),
     )
 
 same-length : tie.Need-same-length
-same-length c = emitted-length _ (c .before .before .contracts .ensures) ∙ emitted-length _ (c .before .before .before .before .before .before .before .before .before .constraints .ensures)
+same-length c = emitted-length _ (c .before .before .contracts .ensures) ∙ emitted-length _ (c .before .before .before .before .before .before .before .before .constraints .ensures)
 
 returns : tie.Need-returns
 returns c =
-    let o = c .before .before .before .before .before .before .before .before .before in
+    let o = c .before .before .before .before .before .before .before .before in
     let k = o .before .before .before .before .before .before .before in
     let u = k .before in
-    let s = u .before .before .before in
-    both-out (s .args .book .now) (s .args .h) (s .args .account) (s .args .own) _ _ (u .units-at .ensures) (k .contracts-at .ensures) (o .constraints .ensures) (c .before .before .contracts .ensures)
+    let s = u .before .before .before .before in
+    both-out (s .args .book .now) (s .args .h) (s .args .locked .now) (headerOf (s .args .locked .now)) (s .args .account) (s .args .own) _ _ (u .units-at .ensures) (k .contracts-at .ensures) (o .constraints .ensures) (c .before .before .contracts .ensures)
 
 pub all-lines-spec : {M : Type 1} → statement M
 all-lines-spec =
@@ -125,9 +118,6 @@ all-lines-spec =
     sub-contracts
     part-contracts-start
     part-contracts-end
-    sub-contracts-2
-    part-contracts-start-2
-    part-contracts-end-2
     cast-contracts
     contracts-requires
     same-length

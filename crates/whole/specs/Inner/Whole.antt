@@ -4,7 +4,7 @@ use Prim.Native.Nat.{ℕ, _+_, _*_, _≤_}
 use mathlib.Core.List.{List}
 use lib.ListN.{length}
 use Rattle.ground.specs.Units.{mostLines}
-use Rattle.totals.specs.declared.entries.Totals.{Totals}
+use Rattle.accounts.specs.declared.energies.OwnEnergies.{OwnEnergies}
 use Rattle.book.specs.Book.{Book}
 use Rattle.statement.specs.Statement.{statementBytes}
 use Rattle.statement.specs.declared.Heading.{Heading}
@@ -20,6 +20,6 @@ pub record Fits (ls : List Line) (n : ℕ) : Type 0 where
 abbrev pub headingIn : ℕ → Book → ℕ → Heading
 headingIn account B n = record { account = account; date = B .header .date; interval = B .header .interval; run = B .header .run; lines = n }
 
--- the statement, from a book and the account's own energy
-unfoldable pub wholeOf : ℕ → Book → Totals → List ℕ
-wholeOf account B own = statementBytes (headingIn account B (length (bookLines B account own))) (bookLines B account own)
+-- the statement, from a book, the one that test payments are settled by, and the account's own energies in both
+unfoldable pub wholeOf : ℕ → Book → Book → OwnEnergies → List ℕ
+wholeOf account B L own = statementBytes (headingIn account B (length (bookLines B L account own))) (bookLines B L account own)

@@ -9,6 +9,7 @@
 
 mod books;
 mod dispatch;
+mod locked;
 mod stack;
 mod timing;
 
@@ -59,40 +60,67 @@ fn main() {
     costs();
     length_of_check(&books);
     chosen_accounts(&books[2]);
+    let pairs = books::pairs();
+    locked::print(&pairs, &[&books[1], &books[2], &books[3]]);
     growth();
-    stack::print(&books);
+    stack::print(books.iter().chain(&pairs.usual));
+}
+
+/// The library's calls on the books, as they are timed.
+impl Asked {
+    fn is_checked(&self) -> bool {
+        fervolatro::check(black_box(&self.bytes), black_box(self.locked())).is_ok()
+    }
+
+    fn is_measured(&self) -> bool {
+        self.measured().is_ok()
+    }
+
+    fn measured(&self) -> Result<usize, fervolatro::Refusal> {
+        let (book, locked) = (&self.bytes, self.locked());
+        fervolatro::length(black_box(book), black_box(locked), self.account)
+    }
+
+    fn is_settled(&self, buffer: &mut [u8]) -> bool {
+        let (book, locked) = (black_box(&self.bytes), black_box(self.locked()));
+        fervolatro::statement_into(book, locked, self.account, black_box(buffer)).is_ok()
+    }
+
+    fn is_balanced(&self, pool: u64) -> bool {
+        fervolatro::balance(black_box(&self.bytes), black_box(self.locked()), pool).is_ok()
+    }
 }
 
 fn check(asked: &Asked) -> Times {
-    let book = &asked.bytes[..];
+    let books = asked.books();
     side_by_side(
-        || fervolatro::check(black_box(book)).is_ok(),
-        || fast::check(black_box(book)).is_ok(),
+        || asked.is_checked(),
+        || fast::check(black_box(books)).is_ok(),
     )
 }
 
 fn length(asked: &Asked) -> Times {
-    let (book, account) = (&asked.bytes[..], asked.account);
-    let theirs = library::length(book, account);
-    assert_eq!(theirs, fast::length(book, account), "{}", asked.name);
+    let (books, account) = (asked.books(), asked.account);
+    let theirs = library::length(books, account);
+    assert_eq!(theirs, fast::length(books, account), "{}", asked.name);
     side_by_side(
-        || fervolatro::length(black_box(book), account).is_ok(),
-        || fast::length(black_box(book), account).is_ok(),
+        || asked.is_measured(),
+        || fast::length(black_box(books), account).is_ok(),
     )
 }
 
 /// A buffer for the account's statement, of just its length.
 fn just_room(asked: &Asked) -> Vec<u8> {
-    let length = fervolatro::length(&asked.bytes, asked.account);
+    let length = asked.measured();
     vec![0; length.expect("the account is known")]
 }
 
 fn statement(asked: &Asked) -> Times {
-    let (book, account) = (&asked.bytes[..], asked.account);
+    let (books, account) = (asked.books(), asked.account);
     let [mut theirs, mut ours] = [just_room(asked), just_room(asked)];
     let times = side_by_side(
-        || fervolatro::statement_into(black_box(book), account, black_box(&mut theirs)).is_ok(),
-        || fast::statement(black_box(book), account, black_box(&mut ours)).is_ok(),
+        || asked.is_settled(&mut theirs),
+        || fast::statement(black_box(books), account, black_box(&mut ours)).is_ok(),
     );
     assert!(theirs == ours, "{}: they write differently", asked.name);
     times
@@ -101,19 +129,17 @@ fn statement(asked: &Asked) -> Times {
 /// Both calls, as a caller makes them who asks first: the statement goes into as much of
 /// the buffer as the length says.
 fn length_and_statement(asked: &Asked) -> Times {
-    let (book, account) = (&asked.bytes[..], asked.account);
+    let (books, account) = (asked.books(), asked.account);
     let [mut theirs, mut ours] = [just_room(asked), just_room(asked)];
     let times = side_by_side(
         || {
-            fervolatro::length(black_box(book), account).is_ok_and(|length| {
-                let room = black_box(&mut theirs[..length]);
-                fervolatro::statement_into(black_box(book), account, room).is_ok()
-            })
+            let length = asked.measured();
+            length.is_ok_and(|length| asked.is_settled(&mut theirs[..length]))
         },
         || {
-            fast::length(black_box(book), account).is_ok_and(|length| {
+            fast::length(black_box(books), account).is_ok_and(|length| {
                 let room = black_box(&mut ours[..length]);
-                fast::statement(black_box(book), account, room).is_ok()
+                fast::statement(black_box(books), account, room).is_ok()
             })
         },
     );
@@ -142,44 +168,41 @@ fn all_lines(statement: &Asked) -> Times {
 
 /// One pool.
 fn balance(asked: &Asked, pool: u64) -> Times {
-    let book = &asked.bytes[..];
+    let books = asked.books();
     assert_eq!(
-        library::balance(book, pool),
-        fast::balance(book, pool),
+        library::balance(books, pool),
+        fast::balance(books, pool),
         "{}, pool {pool}",
         asked.name
     );
     side_by_side(
-        || fervolatro::balance(black_box(book), pool).is_ok(),
-        || fast::balance(black_box(book), pool).is_ok(),
+        || asked.is_balanced(pool),
+        || fast::balance(black_box(books), pool).is_ok(),
     )
 }
 
 /// A pool of each kind, and what one takes on average over all.
 fn balances(asked: &Asked) {
-    let book = &asked.bytes[..];
     for kind in Kind::ALL {
-        if let Some(pool) = fullest(book, kind) {
+        if let Some(pool) = fullest(asked, kind) {
             let call = format!("balance, {kind:?}");
             println!("{}", balance(asked, pool).row(&call, asked));
         }
     }
-    println!("{}", average(book).row("balance, average", asked));
+    println!("{}", average(asked).row("balance, average", asked));
 }
 
 /// What a pool takes on average over all, a few at a time: a round of all would be so
 /// long that something else always came between.
-fn average(book: &[u8]) -> Times {
-    let numbers = pool_numbers(book);
+fn average(asked: &Asked) -> Times {
+    let books = asked.books();
+    let numbers = pool_numbers(&asked.bytes);
     let of_all = numbers.chunks(POOLS_AT_A_TIME).map(|few| {
         side_by_side(
+            || few.iter().all(|&pool| asked.is_balanced(pool)),
             || {
                 few.iter()
-                    .all(|&pool| fervolatro::balance(black_box(book), pool).is_ok())
-            },
-            || {
-                few.iter()
-                    .all(|&pool| fast::balance(black_box(book), pool).is_ok())
+                    .all(|&pool| fast::balance(black_box(books), pool).is_ok())
             },
         )
     });
@@ -193,14 +216,15 @@ fn pool_numbers(book: &[u8]) -> Vec<u64> {
 
 /// The pool of a kind that asks for most: by its lines, of those that have a residual
 /// pool, if there are.
-fn fullest(book: &[u8], kind: Kind) -> Option<u64> {
-    let decoded = Book::decode(book);
+fn fullest(asked: &Asked, kind: Kind) -> Option<u64> {
+    let books = asked.books();
+    let decoded = Book::decode(books.book);
     let has_residual = |id: u32| {
         let mut constraints = decoded.constraints.iter();
         constraints.any(|of| of.id == id && of.rcf < 0 && of.drcf < 0)
     };
     let asks_for = |pool: &Pool, number: u64| {
-        let lines = fast::balance(book, number).map_or(0, |balance| balance.lines);
+        let lines = fast::balance(books, number).map_or(0, |balance| balance.lines);
         (has_residual(pool.id), lines)
     };
     (0..)
@@ -246,12 +270,8 @@ fn length_of_check(books: &[Asked]) {
     println!("\nlength of check, both the library's");
     println!("book                              bytes     length ns      check ns  ratio");
     for asked in books {
-        let (book, account) = (&asked.bytes[..], asked.account);
-        let times = side_by_side(
-            || fervolatro::length(black_box(book), account).is_ok(),
-            || fervolatro::check(black_box(book)).is_ok(),
-        );
-        let (name, bytes) = (&asked.name, book.len());
+        let times = side_by_side(|| asked.is_measured(), || asked.is_checked());
+        let (name, bytes) = (&asked.name, asked.length());
         let (length, check, ratio) = (times.library, times.beside, times.ratio());
         println!("{name:<32} {bytes:>6} {length:>13.1} {check:>13.1} {ratio:>6.2}");
     }
@@ -263,26 +283,30 @@ fn length_of_check(books: &[Asked]) {
 /// had before.
 fn chosen_accounts(ordinary: &Asked) {
     println!("\nbalance, accounts chosen against the count");
-    println!("book                              bytes    library ns  of an ordinary book's");
-    let usual = library_average(&ordinary.bytes);
+    chosen_beside(ordinary, [10, 14, 18, 22].map(books::against));
+}
+
+/// The library's average balance of each, and how many times that is of the ordinary
+/// one's.
+fn chosen_beside(ordinary: &Asked, chosen: [Asked; 4]) {
+    println!("book                              bytes    library ns  of an ordinary one's");
+    let usual = library_average(ordinary);
     let row = |asked: &Asked, time: f64| {
-        let (name, bytes, times) = (&asked.name, asked.bytes.len(), time / usual);
+        let (name, bytes, times) = (&asked.name, asked.length(), time / usual);
         println!("{name:<32} {bytes:>6} {time:>13.1} {times:>12.1} times");
     };
     row(ordinary, usual);
-    for bits in [10, 14, 18, 22] {
-        let asked = books::against(bits);
-        row(&asked, library_average(&asked.bytes));
+    for asked in &chosen {
+        row(asked, library_average(asked));
     }
 }
 
 /// What a pool takes the library on average over all, in nanoseconds.
-fn library_average(book: &[u8]) -> f64 {
-    let numbers = pool_numbers(book);
+fn library_average(asked: &Asked) -> f64 {
+    let numbers = pool_numbers(&asked.bytes);
     let of_all = numbers.chunks(POOLS_AT_A_TIME).map(|few| {
         alone(ROUNDS_ALONE, || {
-            few.iter()
-                .all(|&pool| fervolatro::balance(black_box(book), pool).is_ok())
+            few.iter().all(|&pool| asked.is_balanced(pool))
         })
     });
     of_all.sum::<f64>() / numbers.len() as f64
@@ -306,7 +330,7 @@ fn growth() {
         let asked = books::of(sizes);
         println!("{}", check(&asked).row("check", &asked));
         println!("{}", statement(&asked).row("statement", &asked));
-        let pool = fullest(&asked.bytes, Kind::Contingency).expect("there is one");
+        let pool = fullest(&asked, Kind::Contingency).expect("there is one");
         println!(
             "{}",
             balance(&asked, pool).row("balance, Contingency", &asked)

@@ -10,8 +10,8 @@ use fervolatro_testing::in_repository;
 
 use super::books::Asked;
 
-/// Prints what each book's calls use.
-pub fn print(books: &[Asked]) {
+/// Prints what each book's calls use, or the largest books' if that is more.
+pub fn print<'a>(books: impl Iterator<Item = &'a Asked>) {
     println!("\nstack of a call, in bytes; tests/c/stack.c has the limits");
     let outer = in_repository("target/outer");
     fs::create_dir_all(&outer).expect("the folder can be made");
@@ -21,8 +21,13 @@ pub fn print(books: &[Asked]) {
         let path = outer.join("stack.book");
         fs::write(&path, &asked.bytes).expect("the book can be written");
         let account = PathBuf::from(asked.account.to_string());
-        let said = run("run", &[program.clone(), path, account]);
-        print!("{:<24} {said}", asked.name);
+        let mut words = vec![program.clone(), path, account];
+        if let Some(locked) = asked.locked() {
+            let path = outer.join("stack.locked");
+            fs::write(&path, locked).expect("the locked book can be written");
+            words.push(path);
+        }
+        print!("{:<24} {}", asked.name, run("run", &words));
     }
 }
 

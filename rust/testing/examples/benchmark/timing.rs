@@ -92,7 +92,7 @@ impl Times {
 
     /// A row of the table, for a book or a statement.
     pub fn row(&self, call: &str, asked: &Asked) -> String {
-        self.row_of(call, &asked.name, asked.bytes.len())
+        self.row_of(call, &asked.name, asked.length())
     }
 
     /// A row of the table, for so many bytes of this name.

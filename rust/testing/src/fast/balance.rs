@@ -4,49 +4,54 @@
 //! Energy rows stand in the order of their accounts, so those are counted where the
 //! account changes. Unit rows do not: their accounts go into a table on the stack,
 //! open-addressed, more than three times as large as there can be of them, while the
-//! check passes the rows; each account of energy rows is then looked up in it.
+//! check passes the rows; each account of energy rows is then looked up in it. Where the
+//! locked book is read, its unit rows go into a larger table with the others, and so do
+//! the energy rows of the one book by whose energy the pool is not shared.
 
 use std::cell::Cell;
 
-use super::check::{checked, factors, totals, Totals};
+use super::check::{checked, factors, totals, Read, Totals, TEST};
 use super::layout::{i32_at, size_at, u32_at, u64_at, Sections};
 use super::shares::{halves, share, Pools};
 use super::statement::take_row;
-use crate::{Balance, Refusal};
+use crate::{Balance, Books, Refusal};
 
-/// A book shorter than this has fewer than 128 unit rows.
+/// Books shorter than this together have fewer than 128 unit rows and energy rows.
 const SHORT: usize = 84 + 20 * 128;
 
-pub fn balance(book: &[u8], pool: u64) -> Result<Balance, Refusal> {
-    // Clearing the large table would take longer than all else in a short book.
-    if book.len() < SHORT {
-        balance_with(&mut Accounts::<256>::none(), book, pool)
+pub fn balance(books: Books, pool: u64) -> Result<Balance, Refusal> {
+    // Clearing a large table would take longer than all else in a short book.
+    if books.book.len() + books.locked.len() < SHORT {
+        balance_with(&mut Accounts::<256>::none(), books, pool)
+    } else if books.locked.is_empty() {
+        balance_with(&mut Accounts::<2_048>::none(), books, pool)
     } else {
-        balance_with(&mut Accounts::<2_048>::none(), book, pool)
+        balance_with(&mut Accounts::<4_096>::none(), books, pool)
     }
 }
 
 fn balance_with<const SLOTS: usize>(
     accounts: &mut Accounts<SLOTS>,
-    book: &[u8],
+    books: Books,
     pool: u64,
 ) -> Result<Balance, Refusal> {
-    let sections = checked(book, |account, _| accounts.insert(account))?;
+    let read = checked(books, |_, account, _| accounts.insert(account))?;
+    let pool = Pool::numbered(&read.current, pool).ok_or(Refusal {
+        number: 15,
+        place: 0,
+    })?;
+    let (sections, other) = pool.shared_by(&read);
+    accounts.insert_rows(other.map_or(&[], |other| other.energies));
     let totals = totals(&sections);
-    match Pool::numbered(&sections, pool) {
-        Some(Pool::Contingency(record)) => Ok(contingency(&sections, &totals, accounts, record)),
-        Some(Pool::Regulation(record, what)) => {
-            Ok(regulation(&sections, &totals, accounts, record, what))
-        }
-        Some(Pool::Contract(record)) => Ok(contract(&sections, &totals, accounts, record)),
-        None => Err(Refusal {
-            number: 15,
-            place: 0,
-        }),
-    }
+    Ok(match pool {
+        Pool::Contingency(record) => contingency(&sections, &totals, accounts, record),
+        Pool::Regulation(record, what) => regulation(&sections, &totals, accounts, record, what),
+        Pool::Contract(record) => contract(&sections, &totals, accounts, record),
+    })
 }
 
-/// The accounts of unit rows, each once. A slot of 0 is free: no account is 0.
+/// The accounts of unit rows, and of the energy rows that nothing is shared by, each once.
+/// A slot of 0 is free: no account is 0.
 struct Accounts<const SLOTS: usize> {
     slots: [u32; SLOTS],
     count: u64,
@@ -81,13 +86,19 @@ impl<const SLOTS: usize> Accounts<SLOTS> {
         self.slots[slot] = account;
     }
 
+    fn insert_rows(&mut self, energies: &[[u8; 24]]) {
+        for row in energies {
+            self.insert(u32_at(row, 0));
+        }
+    }
+
     #[inline(always)]
     fn has(&self, account: u32) -> bool {
         self.slots[self.slot(account)] != 0
     }
 
-    /// How many accounts there are, of energy rows and of unit rows. On the way
-    /// `on_row` is shown each energy row, and `on_end` told when an account's rows
+    /// How many accounts there are, those of these energy rows and those of the table. On
+    /// the way `on_row` is shown each energy row, and `on_end` told when an account's rows
     /// were shown.
     #[inline(always)]
     fn with_energies(
@@ -135,6 +146,16 @@ impl<'b> Pool<'b> {
         }
         let contract = sections.contracts.get(usize::try_from(left).ok()?)?;
         Some(Pool::Contract(contract))
+    }
+
+    /// The book by whose energy the pool is shared, and the other that is read, if one is.
+    fn shared_by(&self, read: &Read<'b>) -> (Sections<'b>, Option<Sections<'b>>) {
+        match (self, read.locked) {
+            (Pool::Contract(record), Some(locked)) if record[4] == TEST => {
+                (locked, Some(read.current))
+            }
+            (_, locked) => (read.current, locked),
+        }
     }
 }
 

@@ -2,25 +2,92 @@
 //!
 //! Sections are passed in the order in which they stand, so the first fault of 5 is
 //! the one to report, and ends it. Of 6 to 10 the first place is noted on the way;
-//! what comes out wrong after an earlier number failed is never asked for.
+//! what comes out wrong after an earlier number failed is never asked for. The locked
+//! book, where it is read, is passed in the same way, once the other has kept 1 to 9.
 
 use super::layout::{
     i32_at, size_at, u16_at, u32_at, u64_at, Sections, CONSTRAINTS_AT, ENTRIES_AT,
 };
-use crate::Refusal;
+use crate::{Books, Refusal};
 
 const SHORTEST: usize = 84;
 const ENERGY_LIMIT: u32 = 20_000_000;
 pub(super) const MONEY_LIMIT: u64 = 50_000_000_000;
 const WHOLE: u64 = 1_000_000;
 
-pub fn check(book: &[u8]) -> Result<(), Refusal> {
-    checked(book, |_, _| {}).map(|_| ())
+/// The kind of a contract that is shared by the locked book's energies.
+pub(super) const TEST: u8 = 2;
+
+pub fn check(books: Books) -> Result<(), Refusal> {
+    checked(books, |_, _, _| {}).map(|_| ())
 }
 
-/// The sections of an accepted book. On the way `on_unit` is shown the account of
-/// each unit row, and the mode of its constraint.
-pub(super) fn checked(book: &[u8], on_unit: impl FnMut(u32, u8)) -> Result<Sections<'_>, Refusal> {
+/// Which of the two books a row is of.
+#[derive(Clone, Copy, PartialEq, Eq)]
+pub(super) enum Of {
+    Current,
+    Locked,
+}
+
+/// The books that are read: the locked one where the other has a contract of kind 2.
+pub(super) struct Read<'b> {
+    pub current: Sections<'b>,
+    pub locked: Option<Sections<'b>>,
+}
+
+/// The sections of an accepted book, and of the locked one where it is read. On the way
+/// `on_unit` is shown the account of each unit row of both, and the mode of its
+/// constraint.
+pub(super) fn checked<'b>(
+    books: Books<'b>,
+    mut on_unit: impl FnMut(Of, u32, u8),
+) -> Result<Read<'b>, Refusal> {
+    let on_current = |account, mode| on_unit(Of::Current, account, mode);
+    let (current, first) = passed(books.book, on_current)?;
+    let on_locked = |account, mode| on_unit(Of::Locked, account, mode);
+    let locked = match first.test {
+        0 => None,
+        place => Some(locked_at(place, &current, books.locked, on_locked)?),
+    };
+    let divisor = locked.map_or(0, |locked| test_without_energy(&current, &locked));
+    let places = [first.divisor, divisor].into_iter();
+    let lowest = places.filter(|&place| place != 0).min().unwrap_or(0);
+    refuse_unless(lowest == 0, 10, lowest)?;
+    Ok(Read { current, locked })
+}
+
+/// The locked book, which is read for the contract at this place. Apart from the rest, so
+/// that a book by itself is passed as fast as if there were none.
+#[inline(never)]
+fn locked_at<'b>(
+    place: usize,
+    current: &Sections,
+    locked: &'b [u8],
+    on_unit: impl FnMut(u32, u8),
+) -> Result<Sections<'b>, Refusal> {
+    refuse_unless(!locked.is_empty(), 17, place)?;
+    let passed = passed(locked, on_unit).ok().map(|(sections, _)| sections);
+    let locked = passed.filter(|locked| {
+        // Interval and date stand side by side.
+        let [of, with] = [locked.header, current.header];
+        of[6..12] == with[6..12] && u16_at(of, 12) <= u16_at(with, 12)
+    });
+    locked.ok_or(Refusal { number: 18, place })
+}
+
+/// The place of the first contract of kind 2 that benefits a region where the locked book
+/// has no energy to divide by; 0 if there is none.
+fn test_without_energy(current: &Sections, locked: &Sections) -> usize {
+    let totals = totals(locked);
+    let divides = not_zero(&totals, 0) & not_zero(&totals, 1);
+    let mut contracts = current.contracts.iter();
+    let found = contracts.position(|record| record[4] == TEST && !has_energy(record, divides));
+    found.map_or(0, |index| current.contracts_at() + 36 * index)
+}
+
+/// Checks 1 to 9 of one book: its sections, and what was noted of check 10 and of the
+/// contracts of kind 2 on the way.
+fn passed(book: &[u8], on_unit: impl FnMut(u32, u8)) -> Result<(Sections<'_>, Faults), Refusal> {
     let sections = laid_out(book)?;
     let totals = entries(&sections)?;
     let mut first = Faults::default();
@@ -34,11 +101,12 @@ pub(super) fn checked(book: &[u8], on_unit: impl FnMut(u32, u8)) -> Result<Secti
         }
     }
     first.lowest_number()?;
-    Ok(sections)
+    Ok((sections, first))
 }
 
-/// The first place at which each of 6 to 10 fails; 0, where no record stands, if
-/// it does not.
+/// The first place at which each of 6 to 10 fails, the last for all that the book's own
+/// energies are divided by, and that of the first contract of kind 2; 0, where no record
+/// stands, if there is none.
 #[derive(Default)]
 struct Faults {
     order: usize,
@@ -46,17 +114,13 @@ struct Faults {
     factors: usize,
     entry: usize,
     divisor: usize,
+    test: usize,
 }
 
 impl Faults {
+    /// Of 6 to 9.
     fn lowest_number(&self) -> Result<(), Refusal> {
-        let places = [
-            self.order,
-            self.name,
-            self.factors,
-            self.entry,
-            self.divisor,
-        ];
+        let places = [self.order, self.name, self.factors, self.entry];
         match (6..).zip(places).find(|&(_, place)| place != 0) {
             Some((number, place)) => Err(Refusal { number, place }),
             None => Ok(()),
@@ -377,12 +441,20 @@ fn contracts(sections: &Sections, totals: &Totals, first: &mut Faults) -> Result
             note(&mut first.order, place);
         }
         before = id;
-        let benefits = (0..5).any(|region| factors[region] != 0 && divides >> region & 1 == 0);
-        if benefits {
+        if record[4] == TEST {
+            note(&mut first.test, place);
+        } else if !has_energy(record, divides) {
             note(&mut first.divisor, place);
         }
     }
     Ok(())
+}
+
+/// Whether a contract benefits no region but those of the mask.
+#[inline(always)]
+fn has_energy(record: &[u8; 36], divides: u8) -> bool {
+    let factors = factors(record);
+    (0..5).all(|region| factors[region] == 0 || divides >> region & 1 == 1)
 }
 
 /// The benefit factors of a contract.

@@ -1,6 +1,6 @@
 //! The rules once more, written for speed: what the benchmark holds the library
 //! against. Nothing is allocated, and no unit row or energy row is passed more than
-//! twice, once to check it and once to settle it.
+//! twice, once to check it and once to settle it; nor is any of the locked book's.
 //!
 //! It is no second reference: `tests/fast.rs` and `tests/dispatch.rs` compare it with
 //! that one.

@@ -1,23 +1,24 @@
 //! The statement of an account, and its length. Unit rows are passed once by the check,
 //! which counts the account's on the way, and once to write; the account's energy rows,
-//! side by side in their order, are found by binary search.
+//! side by side in their order, are found by binary search, in the locked book too.
 
 use std::slice::IterMut;
 
-use super::check::{checked, factors, refuse_unless, totals, Totals};
+use super::check::{checked, factors, refuse_unless, totals, Of, Totals, TEST};
 use super::layout::{i32_at, size_at, u32_at, u64_at, Sections};
 use super::shares::{halves, share, Pools};
-use crate::Refusal;
+use crate::{Books, Refusal};
 
-pub fn length(book: &[u8], account: u32) -> Result<usize, Refusal> {
-    Ok(counted(book, account)?.length())
+pub fn length(books: Books, account: u32) -> Result<usize, Refusal> {
+    Ok(counted(books, account)?.length())
 }
 
-pub fn statement(book: &[u8], account: u32, buffer: &mut [u8]) -> Result<usize, Refusal> {
-    let counted = counted(book, account)?;
+pub fn statement(books: Books, account: u32, buffer: &mut [u8]) -> Result<usize, Refusal> {
+    let counted = counted(books, account)?;
     let Counted {
         sections,
-        rows,
+        own,
+        locked,
         lines,
     } = &counted;
     let Some((header, slots)) = buffer.get_mut(..counted.length()).and_then(halved) else {
@@ -27,9 +28,11 @@ pub fn statement(book: &[u8], account: u32, buffer: &mut [u8]) -> Result<usize, 
         });
     };
     *header = header_of(sections, account, *lines);
+    let energies = own.energies();
     Settling {
-        totals: totals(sections),
-        own: own_energy(rows),
+        // Without a locked book no contract asks for it.
+        locked: locked.map_or(energies, |of| of.energies()),
+        energies,
         account,
         slots: slots.iter_mut(),
     }
@@ -37,12 +40,41 @@ pub fn statement(book: &[u8], account: u32, buffer: &mut [u8]) -> Result<usize, 
     Ok(counted.length())
 }
 
-/// An accepted book that knows the account: its sections, the account's energy rows, and
-/// how many lines its statement has.
+/// An accepted book that has a statement for the account: its sections, the account's
+/// energy rows there and in the locked book, and how many lines the statement has.
 struct Counted<'b> {
     sections: Sections<'b>,
-    rows: &'b [[u8; 24]],
+    own: Rows<'b>,
+    locked: Option<Rows<'b>>,
     lines: usize,
+}
+
+/// An account's energy rows of a book, and the region entries.
+#[derive(Clone, Copy)]
+struct Rows<'b> {
+    own: &'b [[u8; 24]],
+    sections: Sections<'b>,
+}
+
+impl<'b> Rows<'b> {
+    fn of(sections: Sections<'b>, account: u32) -> Self {
+        let own = own_energy_rows(sections.energies, account);
+        Rows { own, sections }
+    }
+
+    fn energies(&self) -> Energies {
+        Energies {
+            own: own_energy(self.own),
+            total: totals(&self.sections),
+        }
+    }
+}
+
+/// What an account has of energy in each region, and what all have.
+#[derive(Clone, Copy)]
+struct Energies {
+    own: Totals,
+    total: Totals,
 }
 
 impl Counted<'_> {
@@ -53,23 +85,33 @@ impl Counted<'_> {
     }
 }
 
-/// Looks for 1 to 11. 12 is not looked for: no line can pass the limit, as a share of a
-/// pool is at most the pool.
+/// Looks for all that comes before 12, which is not looked for: no line can pass the
+/// limit, as a share of a pool is at most the pool.
 #[inline(always)]
-fn counted(book: &[u8], account: u32) -> Result<Counted<'_>, Refusal> {
-    let mut unit_lines = 0;
-    let sections = checked(book, |owner, mode| {
-        unit_lines += if owner == account {
-            lines_by_mode(mode)
-        } else {
-            0
-        };
+fn counted(books: Books, account: u32) -> Result<Counted, Refusal> {
+    let (mut unit_lines, mut has_locked_units) = (0, false);
+    let read = checked(books, |of, owner, mode| match of {
+        Of::Current => {
+            unit_lines += if owner == account {
+                lines_by_mode(mode)
+            } else {
+                0
+            };
+        }
+        Of::Locked => has_locked_units |= owner == account,
     })?;
-    let rows = own_energy_rows(sections.energies, account);
-    refuse_unless(unit_lines != 0 || !rows.is_empty(), 11, 0)?;
+    let sections = read.current;
+    let own = Rows::of(sections, account);
+    let locked = read.locked.map(|sections| Rows::of(sections, account));
+    let is_named = unit_lines != 0
+        || !own.own.is_empty()
+        || has_locked_units
+        || locked.is_some_and(|locked| !locked.own.is_empty());
+    refuse_unless(is_named, 11, 0)?;
     Ok(Counted {
         sections,
-        rows,
+        own,
+        locked,
         lines: unit_lines + common_lines(&sections),
     })
 }
@@ -137,8 +179,8 @@ fn header_of(sections: &Sections, account: u32, lines: usize) -> [u8; 24] {
 
 /// Writing the lines of an account.
 struct Settling<'l> {
-    totals: Totals,
-    own: Totals,
+    energies: Energies,
+    locked: Energies,
     account: u32,
     slots: IterMut<'l, [u8; 24]>,
 }
@@ -160,11 +202,7 @@ impl Settling<'_> {
 
     #[inline(always)]
     fn line(&mut self, id: u32, part: u8, regions: u8, unit: u32, amount: i64) {
-        let slot = self.slots.next().expect("the lines were counted");
-        let front = u64::from(id) | u64::from(part) << 32 | u64::from(regions) << 40;
-        slot[..8].copy_from_slice(&front.to_le_bytes());
-        slot[8..16].copy_from_slice(&u64::from(unit).to_le_bytes());
-        slot[16..].copy_from_slice(&amount.to_le_bytes());
+        put_line(&mut self.slots, (id, part, regions, unit), amount);
     }
 
     /// Own and total energy of a kind over the regions of a mask.
@@ -173,8 +211,8 @@ impl Settling<'_> {
         let mut over = (0, 0);
         for region in 0..5 {
             if regions >> region & 1 == 1 {
-                over.0 += u64::from(self.own[region][kind]);
-                over.1 += u64::from(self.totals[region][kind]);
+                over.0 += u64::from(self.energies.own[region][kind]);
+                over.1 += u64::from(self.energies.total[region][kind]);
             }
         }
         over
@@ -224,18 +262,36 @@ impl Settling<'_> {
 
     fn contract(&mut self, record: &[u8; 36]) {
         let (id, payment) = (u32_at(record, 0), u64_at(record, 8));
+        let Energies { own, total } = match record[4] {
+            TEST => &self.locked,
+            _ => &self.energies,
+        };
         for (region, factor) in factors(record).into_iter().enumerate() {
             if factor == 0 {
                 continue;
             }
             for (kind, half) in halves(payment, factor).into_iter().enumerate() {
-                let own = self.own[region][kind].into();
-                let total = self.totals[region][kind].into();
+                let (own, total) = (own[region][kind].into(), total[region][kind].into());
                 let amount = -(share(half, own, total) as i64);
-                self.line(id, 9 + kind as u8, 1 << region, 0, amount);
+                let name = (id, 9 + kind as u8, 1 << region, 0);
+                put_line(&mut self.slots, name, amount);
             }
         }
     }
+}
+
+/// Fills the next slot: id, part, regions and unit, and then the amount.
+#[inline(always)]
+fn put_line(
+    slots: &mut IterMut<[u8; 24]>,
+    (id, part, regions, unit): (u32, u8, u8, u32),
+    amount: i64,
+) {
+    let slot = slots.next().expect("the lines were counted");
+    let front = u64::from(id) | u64::from(part) << 32 | u64::from(regions) << 40;
+    slot[..8].copy_from_slice(&front.to_le_bytes());
+    slot[8..16].copy_from_slice(&u64::from(unit).to_le_bytes());
+    slot[16..].copy_from_slice(&amount.to_le_bytes());
 }
 
 /// Takes the row at the front if it names the constraint.

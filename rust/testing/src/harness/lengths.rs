@@ -3,21 +3,21 @@
 use super::question::{Answer, Call, Given};
 use super::report::shown;
 use super::run::Run;
-use crate::Refusal;
+use crate::{Books, Refusal};
 
 impl Run {
     /// Compares the length too where the call is for a statement. It has to be that of
     /// what the call gave.
-    pub(super) fn compare_length(&mut self, call: Call, bytes: &[u8], given: &Given) {
+    pub(super) fn compare_length(&mut self, call: Call, books: Books, given: &Given) {
         let Some(account) = call.statement_of() else {
             return;
         };
-        let length = self.compare(Call::Length { account }, bytes);
+        let length = self.compare(Call::Length { account }, books);
         assert!(
             is_length_of(given, call.room(), &length),
             "{}: {call:?}: {given:?}, and its length {length:?}, {}",
             self.place(),
-            shown(bytes)
+            shown(books)
         );
     }
 }

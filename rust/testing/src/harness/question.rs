@@ -2,7 +2,7 @@
 
 use crate::fast::{self, Fields};
 use crate::reference::Kind;
-use crate::{library, reference, Balance, Entry, Heading, Refusal};
+use crate::{library, reference, Balance, Books, Entry, Heading, Refusal};
 
 /// A call, with what it takes beside the bytes: an account, a pool, the index of a line,
 /// a constraint's id and a service, and how many bytes the buffer has.
@@ -83,11 +83,12 @@ pub enum Answer {
 /// What a call is answered by.
 pub type Given = Result<Answer, Refusal>;
 
-/// One that answers: the call, the bytes it is about, the buffer it may write.
+/// One that answers: the call, the bytes it is about, the buffer it may write. A statement
+/// and dispatch rows stand in the place of the book.
 #[derive(Clone, Copy)]
 pub struct Side {
     pub name: &'static str,
-    pub ask: fn(Call, &[u8], &mut [u8]) -> Given,
+    pub ask: fn(Call, Books, &mut [u8]) -> Given,
 }
 
 /// A side that has every call, under the same names.
@@ -95,27 +96,27 @@ macro_rules! side {
     ($of:ident) => {
         Side {
             name: stringify!($of),
-            ask: |call, bytes, buffer| match call {
-                Call::Check => $of::check(bytes).map(|()| Answer::Nothing),
-                Call::Length { account } => $of::length(bytes, account).map(Answer::Length),
+            ask: |call, books, buffer| match call {
+                Call::Check => $of::check(books).map(|()| Answer::Nothing),
+                Call::Length { account } => $of::length(books, account).map(Answer::Length),
                 Call::Statement { account, .. } => {
-                    $of::statement(bytes, account, buffer).map(Answer::Length)
+                    $of::statement(books, account, buffer).map(Answer::Length)
                 }
                 Call::WholeStatement { account } => {
-                    $of::whole_statement(bytes, account).map(Answer::Bytes)
+                    $of::whole_statement(books, account).map(Answer::Bytes)
                 }
-                Call::Balance { pool } => $of::balance(bytes, pool).map(Answer::Balance),
-                Call::Accounts => $of::accounts(bytes).map(Answer::Accounts),
-                Call::Pools => $of::pools_by_number(bytes).map(Answer::Pools),
-                Call::Header => $of::header(bytes).map(Answer::Heading),
-                Call::Line { index } => $of::line(bytes, index).map(Answer::Line),
-                Call::Lines => $of::lines(bytes).map(Answer::Lines),
-                Call::Unpack { .. } => $of::unpack(bytes, buffer).map(Answer::Length),
-                Call::Rewrite { .. } => $of::rewrite(bytes, buffer).map(Answer::Length),
-                Call::WholeRewrite => $of::whole_rewrite(bytes).map(Answer::Bytes),
-                Call::Payment { service } => $of::payment(bytes, service).map(Answer::Amount),
+                Call::Balance { pool } => $of::balance(books, pool).map(Answer::Balance),
+                Call::Accounts => $of::accounts(books).map(Answer::Accounts),
+                Call::Pools => $of::pools_by_number(books).map(Answer::Pools),
+                Call::Header => $of::header(books.book).map(Answer::Heading),
+                Call::Line { index } => $of::line(books.book, index).map(Answer::Line),
+                Call::Lines => $of::lines(books.book).map(Answer::Lines),
+                Call::Unpack { .. } => $of::unpack(books.book, buffer).map(Answer::Length),
+                Call::Rewrite { .. } => $of::rewrite(books.book, buffer).map(Answer::Length),
+                Call::WholeRewrite => $of::whole_rewrite(books.book).map(Answer::Bytes),
+                Call::Payment { service } => $of::payment(books.book, service).map(Answer::Amount),
                 Call::BaseCost { id, service } => {
-                    $of::base_cost(bytes, id, service).map(Answer::Amount)
+                    $of::base_cost(books.book, id, service).map(Answer::Amount)
                 }
             },
         }
@@ -129,16 +130,18 @@ pub const REFERENCE: Side = side!(reference);
 /// The fast version, which has the calls that are timed.
 pub const FAST: Side = Side {
     name: "fast",
-    ask: |call, bytes, buffer| match call {
-        Call::Check => fast::check(bytes).map(|()| Answer::Nothing),
-        Call::Length { account } => fast::length(bytes, account).map(Answer::Length),
+    ask: |call, books, buffer| match call {
+        Call::Check => fast::check(books).map(|()| Answer::Nothing),
+        Call::Length { account } => fast::length(books, account).map(Answer::Length),
         Call::Statement { account, .. } => {
-            fast::statement(bytes, account, buffer).map(Answer::Length)
+            fast::statement(books, account, buffer).map(Answer::Length)
         }
-        Call::Balance { pool } => fast::balance(bytes, pool).map(Answer::Balance),
-        Call::Unpack { .. } => fast_unpack(bytes, buffer).map(Answer::Length),
-        Call::Payment { service } => fast::payment(bytes, service).map(Answer::Amount),
-        Call::BaseCost { id, service } => fast::base_cost(bytes, id, service).map(Answer::Amount),
+        Call::Balance { pool } => fast::balance(books, pool).map(Answer::Balance),
+        Call::Unpack { .. } => fast_unpack(books.book, buffer).map(Answer::Length),
+        Call::Payment { service } => fast::payment(books.book, service).map(Answer::Amount),
+        Call::BaseCost { id, service } => {
+            fast::base_cost(books.book, id, service).map(Answer::Amount)
+        }
         _ => panic!("the fast version has no {}", call.name()),
     },
 };

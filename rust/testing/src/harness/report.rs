@@ -4,6 +4,8 @@ use std::env;
 use std::fmt::Write as _;
 use std::io::{self, Write as _};
 
+use crate::Books;
+
 const DEFAULT_SEED: u64 = 20_250_608;
 
 /// Bytes up to this length are printed whole.
@@ -18,8 +20,17 @@ pub fn seed() -> u64 {
     }
 }
 
-/// A book or a statement for a message, in hexadecimal digits if it is short.
-pub fn shown(bytes: &[u8]) -> String {
+/// What a call is about, for a message: a statement, dispatch rows or a book, and the
+/// locked book if one is lent. In hexadecimal digits what is short.
+pub fn shown<'b>(books: impl Into<Books<'b>>) -> String {
+    let Books { book, locked } = books.into();
+    if locked.is_empty() {
+        return digits(book);
+    }
+    format!("{}, locked {}", digits(book), digits(locked))
+}
+
+fn digits(bytes: &[u8]) -> String {
     if bytes.len() > SHORT {
         return format!("{} bytes", bytes.len());
     }

@@ -7,6 +7,7 @@ use super::lent::Lent;
 use super::question::{Call, Given, Side, REFERENCE};
 use super::report::{self, shown};
 use crate::requests::random::Random;
+use crate::Books;
 
 /// Inputs of one sort: their name, and what makes and compares them.
 pub type Family = (&'static str, fn(&mut Run));
@@ -33,8 +34,8 @@ pub struct Wanted<'w> {
     pub seen: Vec<(String, u64)>,
 }
 
-/// How often each answer came: 0, or a refusal's number, of which 16 is the highest.
-type Counts = [u64; 17];
+/// How often each answer came: 0, or a refusal's number, of which 18 is the highest.
+type Counts = [u64; 19];
 
 pub struct Run {
     pub random: Random,
@@ -108,42 +109,44 @@ impl Run {
     /// buffers have to be the same, and the bytes around a buffer untouched. With a
     /// statement its length is asked for too. Gives the answer, and what the buffer then
     /// holds.
-    pub fn compare_into(&mut self, call: Call, bytes: &[u8]) -> (Given, Lent) {
+    pub fn compare_into<'b>(&mut self, call: Call, books: impl Into<Books<'b>>) -> (Given, Lent) {
+        let books = books.into();
         let mut theirs = Lent::new(call.room(), self.random.bits() as u8);
         let mut ours = theirs.clone();
-        let tested = (self.tested.ask)(call, bytes, theirs.buffer());
-        let reference = (REFERENCE.ask)(call, bytes, ours.buffer());
-        self.agree(call, bytes, &tested, &reference);
+        let tested = (self.tested.ask)(call, books, theirs.buffer());
+        let reference = (REFERENCE.ask)(call, books, ours.buffer());
+        self.agree(call, books, &tested, &reference);
         assert!(
             theirs == ours,
             "{}: {call:?}: {reference:?}, first different byte of the buffer {:?}, {}",
             self.place(),
             theirs.first_difference(&ours),
-            shown(bytes)
+            shown(books)
         );
-        self.compare_length(call, bytes, &tested);
+        self.compare_length(call, books, &tested);
         (tested, theirs)
     }
 
     /// As [`Run::compare_into`], for the answer alone.
-    pub fn compare(&mut self, call: Call, bytes: &[u8]) -> Given {
-        self.compare_into(call, bytes).0
+    pub fn compare<'b>(&mut self, call: Call, books: impl Into<Books<'b>>) -> Given {
+        self.compare_into(call, books).0
     }
 
     /// Puts the question to the tested side, which has to give this answer.
-    pub fn expect(&mut self, call: Call, bytes: &[u8], reference: Given) {
-        let tested = (self.tested.ask)(call, bytes, &mut []);
-        self.agree(call, bytes, &tested, &reference);
+    pub fn expect<'b>(&mut self, call: Call, books: impl Into<Books<'b>>, reference: Given) {
+        let books = books.into();
+        let tested = (self.tested.ask)(call, books, &mut []);
+        self.agree(call, books, &tested, &reference);
     }
 
     /// Both answers have to be the same; it is counted.
-    fn agree(&mut self, call: Call, bytes: &[u8], tested: &Given, reference: &Given) {
+    fn agree(&mut self, call: Call, books: Books, tested: &Given, reference: &Given) {
         assert!(
             tested == reference,
             "{}: {call:?}: {} {tested:?}, reference {reference:?}, {}",
             self.place(),
             self.tested.name,
-            shown(bytes)
+            shown(books)
         );
         let number = reference.as_ref().map_or_else(|no| no.number, |_| 0);
         let answers = self.answers.entry(call.name()).or_default();
@@ -242,8 +245,8 @@ mod tests {
     fn another_byte_is_a_difference() {
         run_of(Side {
             name: "careless",
-            ask: |call, bytes, buffer| {
-                let answer = (LIBRARY.ask)(call, bytes, buffer);
+            ask: |call, books, buffer| {
+                let answer = (LIBRARY.ask)(call, books, buffer);
                 buffer[311] ^= 1;
                 answer
             },
@@ -256,9 +259,9 @@ mod tests {
     fn another_length_is_a_difference() {
         run_of(Side {
             name: "long",
-            ask: |call, bytes, buffer| match call {
+            ask: |call, books, buffer| match call {
                 Call::Length { .. } => Ok(Answer::Length(336)),
-                _ => (LIBRARY.ask)(call, bytes, buffer),
+                _ => (LIBRARY.ask)(call, books, buffer),
             },
         });
     }

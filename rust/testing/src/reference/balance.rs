@@ -1,26 +1,27 @@
-//! The balance of a pool, over the statements of all accounts: refusals 1 to 10
-//! and 15.
+//! The balance of a pool, over the statements of all accounts: refusals 1 to 10, 15, 17
+//! and 18.
 
 use std::collections::BTreeSet;
 
 use super::amounts::Settled;
+use super::check::read;
+use super::locked::Read;
+use super::refuse_unless;
 use super::statement::Settlement;
-use super::{check, refuse_unless};
 use crate::book::{Book, Constraint, Contract};
 use crate::statement::Line;
-use crate::{Balance, Refusal};
+use crate::{Balance, Books, Refusal};
 
 /// "Numbers 1 to 10 come from every call on a book."
-pub fn balance(bytes: &[u8], pool: u64) -> Result<Balance, Refusal> {
-    balances(bytes)?.of(pool)
+pub fn balance<'b>(books: impl Into<Books<'b>>, pool: u64) -> Result<Balance, Refusal> {
+    balances(books)?.of(pool)
 }
 
 /// The balances of all pools of an accepted book, by their numbers.
-pub fn balances(bytes: &[u8]) -> Result<Balances, Refusal> {
-    check(bytes)?;
-    let book = Book::decode(bytes);
-    let lines = lines_of_all(&book);
-    let by_number = pools(&book)
+pub fn balances<'b>(books: impl Into<Books<'b>>) -> Result<Balances, Refusal> {
+    let read = read(books)?;
+    let lines = lines_of_all(&read);
+    let by_number = pools(&read.current)
         .iter()
         .map(|pool| pool.balance(&lines))
         .collect();
@@ -45,30 +46,31 @@ impl Balances {
 }
 
 /// "All accounts (each that 11 lets pass)": those that a unit row or an energy row
-/// names, each once.
-fn accounts_of(book: &Book) -> BTreeSet<u32> {
-    let units = book.units.iter().map(|row| row.account);
-    let energies = book.energies.iter().map(|row| row.account);
-    units.chain(energies).collect()
+/// names, each once. "Balances are over the accounts of both books."
+fn accounts_of(read: &Read) -> BTreeSet<u32> {
+    let accounts = read.each().flat_map(|book| {
+        let units = book.units.iter().map(|row| row.account);
+        let energies = book.energies.iter().map(|row| row.account);
+        units.chain(energies)
+    });
+    accounts.collect()
 }
 
-/// The accounts of an accepted book, rising.
-pub fn accounts(bytes: &[u8]) -> Result<Vec<u32>, Refusal> {
-    check(bytes)?;
-    Ok(accounts_of(&Book::decode(bytes)).into_iter().collect())
+/// The accounts that balances are over, rising.
+pub fn accounts<'b>(books: impl Into<Books<'b>>) -> Result<Vec<u32>, Refusal> {
+    Ok(accounts_of(&read(books)?).into_iter().collect())
 }
 
 /// The pools of an accepted book, by their numbers: what each is of, and its kind.
-pub fn pools_by_number(bytes: &[u8]) -> Result<Vec<(u32, Kind)>, Refusal> {
-    check(bytes)?;
-    let pools = pools(&Book::decode(bytes));
+pub fn pools_by_number<'b>(books: impl Into<Books<'b>>) -> Result<Vec<(u32, Kind)>, Refusal> {
+    let pools = pools(&read(books)?.current);
     Ok(pools.iter().map(|pool| (pool.id, pool.kind)).collect())
 }
 
-fn lines_of_all(book: &Book) -> Vec<Line> {
-    let accounts = accounts_of(book);
+fn lines_of_all(read: &Read) -> Vec<Line> {
+    let accounts = accounts_of(read);
     let statements = accounts.iter().map(|&account| {
-        let settlement = Settlement::of(book, account);
+        let settlement = Settlement::of(read, account);
         settlement.statement()
     });
     statements.flat_map(|statement| statement.lines).collect()

@@ -1,11 +1,12 @@
-//! Checks 1 to 10 of a book.
+//! Checks 1 to 10 of a book, with the locked one beside it.
 
+use super::locked::{locked_beside, Read};
 use super::{refuse_at, refuse_unless};
 use crate::book::{
     Book, Constraint, Contract, EnergyRow, Header, RegionEntry, Section, Sections, UnitRow,
 };
 use crate::field::Field;
-use crate::Refusal;
+use crate::{Books, Refusal};
 
 /// "Book shorter than 84 bytes": the header and the five region entries.
 const SHORTEST: usize = 84;
@@ -19,9 +20,25 @@ const WHOLE: i32 = 1_000_000;
 /// The most money of a cost or a payment.
 const MONEY_LIMIT: i64 = 50_000_000_000;
 
-/// "Each check runs over the whole book before the next number; within it the
-/// lowest offset is reported."
-pub fn check(bytes: &[u8]) -> Result<(), Refusal> {
+/// "Numbers 1 to 10 come from every call on a book."
+pub fn check<'b>(books: impl Into<Books<'b>>) -> Result<(), Refusal> {
+    read(books).map(|_| ())
+}
+
+/// The books that a call reads, of a book that is accepted. What the locked book is
+/// refused by comes "after 9 and before 10".
+pub(super) fn read<'b>(books: impl Into<Books<'b>>) -> Result<Read, Refusal> {
+    let Books { book, locked } = books.into();
+    let current = check_to_9(book)?;
+    let locked = locked_beside(&current, locked)?;
+    let read = Read { current, locked };
+    refuse_at(10, zero_to_divide_by(&read))?;
+    Ok(read)
+}
+
+/// Checks 1 to 9 of one book. "Each check runs over the whole book before the next
+/// number; within it the lowest offset is reported."
+pub(super) fn check_to_9(bytes: &[u8]) -> Result<Book, Refusal> {
     refuse_unless(1, bytes.len() >= SHORTEST)?;
     let header = Header::read(&mut &bytes[..]);
     refuse_unless(2, mark_is_right(&header))?;
@@ -35,7 +52,7 @@ pub fn check(bytes: &[u8]) -> Result<(), Refusal> {
     refuse_at(7, unit_row_without_constraint(&book, &sections))?;
     refuse_at(8, failing_factor_sums(&book, &sections))?;
     refuse_at(9, entry_unlike_its_rows(&book, &sections))?;
-    refuse_at(10, zero_to_divide_by(&book, &sections))
+    Ok(book)
 }
 
 // Check 2: "mark, version or a reserved header byte wrong".
@@ -293,15 +310,18 @@ fn sums_by_region(rows: &[EnergyRow]) -> [Totals; 5] {
 }
 
 // Check 10: "a total to divide by is zero", at the "constraint's or contract's
-// offset". "It applies though the pool is 0."
+// offset". "It applies though the pool is 0." "Check 10 for kind 2 reads the locked
+// totals."
 
-fn zero_to_divide_by(book: &Book, at: &Sections) -> Option<usize> {
+fn zero_to_divide_by(read: &Read) -> Option<usize> {
+    let book = &read.current;
+    let at = Sections::of(&book.header);
     lowest([
         first_breaking(&at.constraints, &book.constraints, |constraint| {
             constraint_divisor(constraint, &book.regions) != 0
         }),
         first_breaking(&at.contracts, &book.contracts, |contract| {
-            contract_divides(contract, &book.regions)
+            contract_divides(contract, &read.for_contract(contract).regions)
         }),
     ])
 }

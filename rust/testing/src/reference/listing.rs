@@ -5,7 +5,8 @@ use crate::statement::{Line, Statement};
 
 /// "The listing program reads four little-endian bytes of account and then a book
 /// from standard input." "A refusal prints `refused N at PLACE`. Fewer than four
-/// input bytes count as account 0 and an empty book."
+/// input bytes count as account 0 and an empty book." "The listing program lends no
+/// locked book."
 pub fn listing(input: &[u8]) -> String {
     let (account, book) = match input.split_first_chunk() {
         Some((account, book)) => (u32::from_le_bytes(*account), book),

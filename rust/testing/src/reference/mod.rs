@@ -8,6 +8,7 @@ mod balance;
 mod check;
 mod dispatch;
 mod listing;
+mod locked;
 mod reading;
 mod statement;
 

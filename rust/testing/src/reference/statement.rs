@@ -1,31 +1,37 @@
-//! The statement of one account, and its length: refusals 1 to 13, the lines in their
-//! order.
+//! The statement of one account, and its length: refusals 1 to 13, 17 and 18, the lines in
+//! their order.
 
 use super::amounts::{contingency_by_ace, contingency_by_asoe, Energy, Halves, Settled};
-use super::{check, refuse_unless};
+use super::check::read;
+use super::locked::{PerBook, Read};
+use super::refuse_unless;
 use crate::book::{Book, Constraint, Contract, UnitRow};
 use crate::statement::{Header, Line, Statement};
-use crate::Refusal;
+use crate::{Books, Refusal};
 
 /// "A line would pass 50,000,000,000 either way."
 const LINE_LIMIT: i64 = 50_000_000_000;
 
 /// "Make two operations of it: one answers the length for an account, the other writes."
 /// "The first gives 1 to 12." "Header, 24 bytes"; a line has as many.
-pub fn length(bytes: &[u8], account: u32) -> Result<usize, Refusal> {
-    let statement = settle(bytes, account)?;
+pub fn length<'b>(books: impl Into<Books<'b>>, account: u32) -> Result<usize, Refusal> {
+    let statement = settle(books, account)?;
     Ok(24 + 24 * statement.lines.len())
 }
 
 /// "A statement then looks for 11, 12, 13." "Each does its own checks": nothing that was
 /// asked for before counts.
-pub fn statement(bytes: &[u8], account: u32, buffer: &mut [u8]) -> Result<usize, Refusal> {
-    write(&settle(bytes, account)?, buffer)
+pub fn statement<'b>(
+    books: impl Into<Books<'b>>,
+    account: u32,
+    buffer: &mut [u8],
+) -> Result<usize, Refusal> {
+    write(&settle(books, account)?, buffer)
 }
 
 /// The statement by itself, where no buffer is lent.
-pub fn whole_statement(bytes: &[u8], account: u32) -> Result<Vec<u8>, Refusal> {
-    Ok(settle(bytes, account)?.encode())
+pub fn whole_statement<'b>(books: impl Into<Books<'b>>, account: u32) -> Result<Vec<u8>, Refusal> {
+    Ok(settle(books, account)?.encode())
 }
 
 /// 13: "lent buffer shorter than the statement". "A refusal answers its number and
@@ -38,12 +44,11 @@ pub(super) fn write(statement: &Statement, buffer: &mut [u8]) -> Result<usize, R
     Ok(written.len())
 }
 
-/// The statement itself, without a buffer: refusals 1 to 12.
-pub fn settle(bytes: &[u8], account: u32) -> Result<Statement, Refusal> {
-    check(bytes)?;
-    let book = Book::decode(bytes);
-    refuse_unless(11, is_named(&book, account))?;
-    let statement = Settlement::of(&book, account).statement();
+/// The statement itself, without a buffer: all refusals but 13.
+pub fn settle<'b>(books: impl Into<Books<'b>>, account: u32) -> Result<Statement, Refusal> {
+    let read = read(books)?;
+    refuse_unless(11, is_named(&read, account))?;
+    let statement = Settlement::of(&read, account).statement();
     refuse_unless(12, statement.lines.iter().all(is_within_limit))?;
     Ok(statement)
 }
@@ -52,34 +57,49 @@ pub(super) fn is_within_limit(line: &Line) -> bool {
     (-LINE_LIMIT..=LINE_LIMIT).contains(&line.amount)
 }
 
-/// 11: "no unit row and no energy row names the account".
-fn is_named(book: &Book, account: u32) -> bool {
-    book.units.iter().any(|row| row.account == account)
-        || book.energies.iter().any(|row| row.account == account)
+/// 11: "when no book read names the account", and a book does by "unit row" or "energy
+/// row".
+fn is_named(read: &Read, account: u32) -> bool {
+    read.each().any(|book| {
+        book.units.iter().any(|row| row.account == account)
+            || book.energies.iter().any(|row| row.account == account)
+    })
 }
 
-/// An accepted book seen by one account: its energies and those of all accounts,
-/// by region.
-pub(super) struct Settlement<'b> {
-    book: &'b Book,
-    account: u32,
+/// What a book has of energy, by region: one account's, and that of all.
+struct Energies {
     own: [Energy; 5],
     total: [Energy; 5],
 }
 
-impl<'b> Settlement<'b> {
-    pub(super) fn of(book: &'b Book, account: u32) -> Self {
+impl Energies {
+    fn of(book: &Book, account: u32) -> Self {
         let own_in = |region: usize| {
             let rows = book.energies.iter();
             let own =
                 rows.filter(|row| row.account == account && usize::from(row.region) == region);
             Energy::sum(own.map(Energy::of_row))
         };
-        Settlement {
-            book,
-            account,
+        Energies {
             own: std::array::from_fn(own_in),
             total: std::array::from_fn(|region| Energy::of_entry(&book.regions[region])),
+        }
+    }
+}
+
+/// An accepted book seen by one account, with the energies of each book that is read.
+pub(super) struct Settlement<'b> {
+    book: &'b Book,
+    account: u32,
+    energies: PerBook<Energies>,
+}
+
+impl<'b> Settlement<'b> {
+    pub(super) fn of(read: &'b Read, account: u32) -> Self {
+        Settlement {
+            book: &read.current,
+            account,
+            energies: read.map(|book| Energies::of(book, account)),
         }
     }
 
@@ -152,11 +172,12 @@ impl<'b> Settlement<'b> {
     /// "Contracts, each benefiting region rising, 9 then 10." "For 9 and 10 the one
     /// region's bit."
     fn contract_lines(&self, contract: &Contract) -> Vec<Line> {
+        let energies = self.energies.for_contract(contract);
         let benefiting = (0..5).filter(|&region| contract.factors[region] > 0);
         benefiting
             .flat_map(|region| {
                 let halves = Halves::of(contract, region);
-                let (own, total) = (self.own[region], self.total[region]);
+                let (own, total) = (energies.own[region], energies.total[region]);
                 [
                     line(contract.id, 9, 1 << region, halves.by_ace(own, total)),
                     line(contract.id, 10, 1 << region, halves.by_asoe(own, total)),
@@ -165,12 +186,14 @@ impl<'b> Settlement<'b> {
             .collect()
     }
 
-    /// The account's energies and those of all, over the regions of a mask.
+    /// The account's energies in the current book and those of all, over the regions of a
+    /// mask.
     fn over(&self, mask: u8) -> (Energy, Energy) {
+        let Energies { own, total } = &self.energies.current;
         let regions = || (0..5).filter(|region| mask >> region & 1 == 1);
         (
-            Energy::sum(regions().map(|region| self.own[region])),
-            Energy::sum(regions().map(|region| self.total[region])),
+            Energy::sum(regions().map(|region| own[region])),
+            Energy::sum(regions().map(|region| total[region])),
         )
     }
 }

@@ -2,6 +2,7 @@
 //! they have more.
 
 use crate::book::{Book, EnergyRow};
+use crate::books::Pair;
 use crate::requests::random::Random;
 
 const ENERGY_LIMIT: i32 = 20_000_000;
@@ -41,17 +42,28 @@ impl Holding {
 
 /// The accounts of a book, rising, each once.
 pub fn named(book: &Book) -> Vec<u32> {
-    let units = book.units.iter().map(|row| row.account);
-    let energies = book.energies.iter().map(|row| row.account);
-    let mut accounts: Vec<u32> = units.chain(energies).collect();
+    named_in([book])
+}
+
+/// The accounts of both books, where the locked one is read.
+pub fn named_by(pair: &Pair) -> Vec<u32> {
+    named_in(pair.read())
+}
+
+fn named_in<'b>(books: impl IntoIterator<Item = &'b Book>) -> Vec<u32> {
+    let mut accounts = Vec::new();
+    for book in books {
+        accounts.extend(book.units.iter().map(|row| row.account));
+        accounts.extend(book.energies.iter().map(|row| row.account));
+    }
     accounts.sort_unstable();
     accounts.dedup();
     accounts
 }
 
 /// An account that is there if there are any, at times one beside it or 0.
-pub fn some_account(random: &mut Random, book: &Book) -> u32 {
-    let named = named(book);
+pub fn some_account(random: &mut Random, pair: &Pair) -> u32 {
+    let named = named_by(pair);
     if named.is_empty() {
         return random.edged(0, i64::from(u32::MAX)) as u32;
     }

@@ -1,4 +1,5 @@
-//! Accounts chosen against the way in which the library counts a book's accounts.
+//! Accounts chosen against the way in which the library counts the accounts of a book, or of
+//! a book and the locked one.
 //!
 //! An account's key is its product with a fixed odd number, of which the lowest 32 bits
 //! count. The unit rows' accounts stand in trees: the first eight bits of the key choose
@@ -45,20 +46,33 @@ fn alike(random: &mut Random, bits: u32, count: usize) -> Vec<u32> {
     accounts
 }
 
-/// Gives the book other accounts, whose keys share so many leading bits: each unit row
-/// one of its own, and the energy rows as many others as there are left, one for each row
-/// at most. All five regions have energy, where there are five accounts or more.
-pub fn against_the_count(random: &mut Random, book: &mut Book, bits: u32) {
-    let (units, rows) = (book.units.len(), book.energies.len());
-    let accounts = rows.min((1 << (32 - bits)) - units);
-    let alike = alike(random, bits, units + accounts);
-    let (of_units, of_energies) = alike.split_at(units);
+/// Gives the books other accounts, whose keys all share so many leading bits: each unit row
+/// one of its own, and the energy rows as many others as there are left for the book, one
+/// for each row at most. All five regions have energy, where there are five accounts or
+/// more. No account is in two of the books.
+pub fn against_the_count(random: &mut Random, books: &mut [&mut Book], bits: u32) {
+    let units: usize = books.iter().map(|book| book.units.len()).sum();
+    let left = ((1 << (32 - bits)) - units) / books.len();
+    let accounts = |book: &Book| book.energies.len().min(left);
+    let of_energies: usize = books.iter().map(|book| accounts(book)).sum();
+    let alike = alike(random, bits, units + of_energies);
+    let mut rest = &alike[..];
+    for book in books {
+        let own = rest.split_off(..book.units.len() + accounts(book));
+        give_accounts(random, book, own.expect("there are so many"));
+    }
+}
+
+/// Gives the unit rows one account each, and the energy rows the rest.
+fn give_accounts(random: &mut Random, book: &mut Book, accounts: &[u32]) {
+    let (of_units, of_energies) = accounts.split_at(book.units.len());
     for (row, &account) in book.units.iter_mut().zip(of_units) {
         row.account = account;
     }
+    let rows = book.energies.len();
     let mut of_energies = of_energies.to_vec();
     of_energies.sort_unstable();
-    let each = rows.div_ceil(accounts);
+    let each = rows.div_ceil(of_energies.len());
     assert!(each <= 5, "an account has a row in each region at most");
     let places = (0..rows).map(|row| {
         let region = row % each + row / each % (6 - each);
@@ -71,14 +85,24 @@ pub fn against_the_count(random: &mut Random, book: &mut Book, bits: u32) {
 #[cfg(test)]
 mod tests {
     use super::{against_the_count, FACTOR, INVERSE};
+    use crate::books::Pair;
     use crate::reference;
-    use crate::requests::accounts::named;
+    use crate::requests::accounts::{named, named_by};
     use crate::requests::generate::{accepted_book, Sizes};
+    use crate::requests::locked::{locked_book, set_kinds};
     use crate::requests::random::Random;
 
     #[test]
     fn the_inverse_gives_an_account_back() {
         assert_eq!(FACTOR.wrapping_mul(INVERSE), 1);
+    }
+
+    fn assert_alike(accounts: &[u32], bits: u32) {
+        let mut fronts = accounts
+            .iter()
+            .map(|account| account.wrapping_mul(FACTOR) >> (32 - bits));
+        let first = fronts.next();
+        assert!(fronts.all(|front| Some(front) == first), "{bits} bits");
     }
 
     /// 2^10 keys share 22 bits: 600 units leave 424 for 1,024 rows, three each.
@@ -87,16 +111,31 @@ mod tests {
         let mut random = Random::new(1);
         for (bits, of_energies) in [(10, 1_024), (14, 1_024), (18, 1_024), (22, 342)] {
             let mut book = accepted_book(&mut random, Sizes::LARGEST);
-            against_the_count(&mut random, &mut book, bits);
+            set_kinds(&mut book, 1);
+            against_the_count(&mut random, &mut [&mut book], bits);
             assert_eq!(reference::check(&book.encode()), Ok(()), "{bits} bits");
             assert_eq!(book.encode().len(), 39_796);
             let accounts = named(&book);
             assert_eq!(accounts.len(), 600 + of_energies, "{bits} bits");
-            let mut fronts = accounts
-                .iter()
-                .map(|account| account.wrapping_mul(FACTOR) >> (32 - bits));
-            let first = fronts.next();
-            assert!(fronts.all(|front| Some(front) == first), "{bits} bits");
+            assert_alike(&accounts, bits);
+        }
+    }
+
+    /// 2^11 keys share 21 bits: 1,200 units leave 848, 424 for the rows of each book.
+    #[test]
+    fn largest_pairs_are_accepted_and_their_keys_alike() {
+        let mut random = Random::new(1);
+        for (bits, of_energies) in [(10, 1_024), (14, 1_024), (20, 1_024), (21, 342)] {
+            let mut book = accepted_book(&mut random, Sizes::LARGEST);
+            set_kinds(&mut book, 2);
+            let mut locked = locked_book(&mut random, &book, Sizes::LARGEST);
+            against_the_count(&mut random, &mut [&mut book, &mut locked], bits);
+            let pair = Pair::of(book, locked);
+            assert_eq!(reference::check(&pair.encode()), Ok(()), "{bits} bits");
+            assert_eq!(pair.encode().locked.len(), 39_796);
+            let accounts = named_by(&pair);
+            assert_eq!(accounts.len(), 2 * (600 + of_energies), "{bits} bits");
+            assert_alike(&accounts, bits);
         }
     }
 }

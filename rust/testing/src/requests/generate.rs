@@ -1,4 +1,5 @@
-//! Random books that are accepted, of every size up to the largest legal one.
+//! Random books that are accepted, of every size up to the largest legal one. Those that
+//! have a contract of kind 2 are so with a locked book beside them (see `locked`).
 //!
 //! Most rules are kept by drawing each field from its range. The sums take more:
 //! energies are split from totals that fit a region entry, factors from a whole.
@@ -91,9 +92,9 @@ pub fn accepted_book(random: &mut Random, sizes: Sizes) -> Book {
     book
 }
 
-/// An accepted book with the longest statement there is, of 51,672 bytes, and the
-/// account that gets it: all constraints are factored, all units the account's,
-/// and all contracts benefit every region.
+/// A book that is accepted by itself, with the longest statement there is, of 51,672
+/// bytes, and the account that gets it: all constraints are factored, all units the
+/// account's, and all contracts benefit every region and are of kind 1.
 pub fn book_of_longest_statement(random: &mut Random) -> (Book, u32) {
     let Sizes {
         constraints,
@@ -122,6 +123,7 @@ pub fn book_of_longest_statement(random: &mut Random) -> (Book, u32) {
     book.units.iter_mut().for_each(|row| row.account = 7);
     for id in (1..).take(contracts) {
         let mut contract = contract(random, id, &book.regions, 0);
+        contract.kind = 1;
         contract.factors = [1, 199_999, 200_000, 250_000, 350_000];
         book.contracts.push(contract);
     }
@@ -233,12 +235,19 @@ fn energy_rows(random: &mut Random, count: usize, divides: bool) -> Vec<EnergyRo
     }
     let lift = lift(random, place / 5);
     rows.iter_mut().for_each(|row| row.account += lift);
-    let anchor = rows.first().map(|row| row.region).filter(|_| divides);
+    let anchor = rows.first().filter(|_| divides);
+    let anchors = anchor.map_or(0, |row| 1 << row.region);
+    give_energy(random, &mut rows, anchors);
+    rows
+}
+
+/// Gives the rows energies whose totals fit the region entries. The regions of the mask
+/// have some of each kind, if they have a row.
+pub fn give_energy(random: &mut Random, rows: &mut [EnergyRow], anchors: u8) {
     for region in 0..5 {
         let own = rows.iter_mut().filter(|row| row.region == region);
-        share_energy(random, own.collect(), anchor == Some(region));
+        share_energy(random, own.collect(), anchors >> region & 1 == 1);
     }
-    rows
 }
 
 /// Gives a region's rows energies whose totals fit its entry. The anchor's first

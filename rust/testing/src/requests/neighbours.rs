@@ -5,20 +5,29 @@
 //! other rows are its neighbours', and any of that may become different so long
 //! as the book stays accepted: energies within the region totals, factors within
 //! their sums, accounts, units, and how many rows there are.
+//!
+//! Of the locked book, where it is read, only the region entries and the account's own
+//! rows are to stay: its run, its constraints and its contracts may change as well.
 
 use std::collections::BTreeSet;
 
 use crate::book::{Book, Constraint, EnergyRow, UnitRow};
+use crate::books::{has_test, Pair};
 use crate::requests::accounts::named;
 use crate::requests::generate::split;
 use crate::requests::random::Random;
-use crate::requests::worked::{energy_row, unit_row};
+use crate::requests::worked::{constraint, contract, energy_row, unit_row};
 
-/// The most energy rows and unit rows of a book.
+/// The most constraints, energy rows, unit rows and contracts of a book.
+const CONSTRAINTS: usize = 64;
 const ENERGY_ROWS: usize = 1_024;
 const UNIT_ROWS: usize = 600;
+const CONTRACTS: usize = 16;
+
+const MONEY_LIMIT: i64 = 50_000_000_000;
 
 /// A change. Where the book has no rows that it needs, it leaves the book as it is.
+#[derive(Clone, Copy)]
 pub struct Change {
     pub name: &'static str,
     pub apply: fn(&mut Random, &mut Book, u32),
@@ -42,8 +51,35 @@ pub const CHANGES: [Change; 11] = [
     change("a unit without factors added", add_empty_unit),
 ];
 
-/// Whether the books agree in all that the account's statement may depend on.
-pub fn agree_for(account: u32, one: &Book, other: &Book) -> bool {
+/// Changes of a locked book beyond those.
+pub const LOCKED_CHANGES: [Change; 5] = [
+    change("an earlier run", |random, locked, _| {
+        locked.header.run = random.between(1, i64::from(locked.header.run)) as u16;
+    }),
+    change("other costs and regions", change_constraints),
+    change("a constraint added", add_constraint),
+    change("a contingency constraint gone", remove_contingency),
+    change("other contracts", replace_contracts),
+];
+
+/// Whether the books agree in all that the account's statement may depend on. A locked
+/// book that is not read is nothing of that.
+pub fn agree_for(account: u32, one: &Pair, other: &Pair) -> bool {
+    let locked = match (&one.locked, &other.locked) {
+        _ if !has_test(&one.book) => true,
+        (Some(one), Some(other)) => agree_in_rows(account, one, other),
+        (one, other) => one == other,
+    };
+    let (one, other) = (&one.book, &other.book);
+    locked
+        && one.header == other.header
+        && one.constraints == other.constraints
+        && one.contracts == other.contracts
+        && agree_in_rows(account, one, other)
+}
+
+/// Whether the region entries are the same, and the account's own rows.
+fn agree_in_rows(account: u32, one: &Book, other: &Book) -> bool {
     let units = |book: &Book| -> Vec<UnitRow> {
         let rows = book.units.iter();
         rows.filter(|row| row.account == account).copied().collect()
@@ -52,12 +88,7 @@ pub fn agree_for(account: u32, one: &Book, other: &Book) -> bool {
         let rows = book.energies.iter();
         rows.filter(|row| row.account == account).copied().collect()
     };
-    one.header == other.header
-        && one.regions == other.regions
-        && one.constraints == other.constraints
-        && one.contracts == other.contracts
-        && units(one) == units(other)
-        && energies(one) == energies(other)
+    one.regions == other.regions && units(one) == units(other) && energies(one) == energies(other)
 }
 
 // Accounts.
@@ -363,4 +394,53 @@ fn add_empty_unit(random: &mut Random, book: &mut Book, account: u32) {
         book.units.push(unit_row(id, unit, name, 0, 0));
         sort(book);
     }
+}
+
+// Constraints and contracts of a locked book, which nothing is shared by. Its unit rows
+// stay, so every constraint that may have some does too.
+
+fn change_constraints(random: &mut Random, locked: &mut Book, _: u32) {
+    for of in &mut locked.constraints {
+        of.cost = random.edged(0, MONEY_LIMIT);
+        of.regions = random.between(1, 31) as u8;
+    }
+}
+
+fn add_constraint(random: &mut Random, locked: &mut Book, _: u32) {
+    let id = random.edged(1, i64::from(u32::MAX)) as u32;
+    let is_taken = locked.constraints.iter().any(|of| of.id == id);
+    if is_taken || locked.constraints.len() == CONSTRAINTS {
+        return;
+    }
+    let default = Constraint {
+        drcf: -1_000_000,
+        ..constraint(id, 10, 2, 31, MONEY_LIMIT)
+    };
+    let contingency = constraint(id, 1, 0, random.between(1, 31) as u8, 1);
+    locked
+        .constraints
+        .push(*random.pick(&[default, contingency]));
+    locked.constraints.sort_by_key(|of| of.id);
+}
+
+fn remove_contingency(_: &mut Random, locked: &mut Book, _: u32) {
+    if let Some(at) = locked.constraints.iter().position(|of| of.mode == 0) {
+        locked.constraints.remove(at);
+    }
+}
+
+fn replace_contracts(random: &mut Random, locked: &mut Book, _: u32) {
+    let count = random.below(CONTRACTS + 1) as u32;
+    let contracts = (1..=count).map(|id| {
+        let factors = split(random, 1_000_000, 5);
+        let kind = random.between(1, 2) as u8;
+        let payment = random.edged(0, MONEY_LIMIT);
+        contract(
+            id,
+            kind,
+            payment,
+            [0, 1, 2, 3, 4].map(|at: usize| factors[at] as u32),
+        )
+    });
+    locked.contracts = contracts.collect();
 }

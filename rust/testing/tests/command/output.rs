@@ -10,7 +10,7 @@ use fervolatro_testing::book::Book;
 use fervolatro_testing::harness::report;
 use fervolatro_testing::requests::generate::book_of_longest_statement;
 use fervolatro_testing::requests::random::Random;
-use fervolatro_testing::requests::worked::{empty_book, worked_book};
+use fervolatro_testing::requests::worked::{contract, empty_book, worked_book};
 
 use crate::run::{
     ask, bash, end, is_in_readme, listing, repository, run, run_on, start, worked_file, Folder,
@@ -78,6 +78,20 @@ fn a_refusal_exits_with_1() {
         let ended = run(&mut ask("7", file));
         ended.must_answer(7, &book);
         assert!(ended.stdout.starts_with("refused "), "{ended}");
+    }
+}
+
+/// It lends no locked book, which a test payment wants: here the one at 272, behind the
+/// records of the worked book.
+#[test]
+fn a_test_payment_is_refused() {
+    let folder = Folder::new();
+    let book = spoilt_by(|book| {
+        book.contracts = vec![contract(1, 2, 0, [1_000_000, 0, 0, 0, 0])];
+    });
+    let file = folder.write("a book", &book);
+    for account in ["7", "8"] {
+        run(&mut ask(account, &file)).must_print("refused 17 at 272\n", 1);
     }
 }
 

@@ -104,13 +104,15 @@ const PLACES: &[(&str, &str)] = &[
         TABLE,
         "refuse {REFUSED_ZERO_TOTAL} 84 40 (constraintDivides",
     ),
+    (TABLE, "check17 B l = atTest {REFUSED_NO_LOCKED} B (not"),
+    (TABLE, "check18 B l = atTest {REFUSED_LOCKED} B (locks"),
     (
         SETTLE,
-        "cond (unknown rows) (refuses {REFUSED_NO_ACCOUNT} 0)",
+        "cond (unnamed rows locked) (refuses {REFUSED_NO_ACCOUNT} 0)",
     ),
     (
         SETTLE,
-        "cond (anyOver (linesOf public rows)) (refuses {REFUSED_LIMIT} 0)",
+        "cond (anyOver (linesOf public rows locked)) (refuses {REFUSED_LIMIT} 0)",
     ),
     (LENT, "(Length (length xs)) (Refused {REFUSED_BUFFER} 0)"),
     (CALLS, "(heading.Refused {REFUSED_NO_STATEMENT} 0)"),

@@ -119,12 +119,13 @@ fn type_of(parameter: &str) -> &str {
         .trim_end()
 }
 
-/// What C has for the parameters of a call: a slice is a pointer and a length.
+/// What C has for the parameters of a call: a slice is a pointer and a length, also one
+/// with a lifetime.
 fn parameters_in_c(parameters: &str) -> Vec<&str> {
     let parameters = parameters.trim_matches(['(', ')']).split(", ");
     let kinds = parameters.filter_map(|parameter| parameter.split_once(": "));
     let in_c = kinds.flat_map(|(_, kind)| match kind {
-        "&[u8]" => vec!["const uint8_t *", "size_t"],
+        "&[u8]" | "&'a [u8]" => vec!["const uint8_t *", "size_t"],
         "&mut [u8]" => vec!["uint8_t *", "size_t"],
         number => vec![number_in_c(number)],
     });

@@ -426,6 +426,9 @@ fn parts_elsewhere(repository: &Repository, rows: &[Row]) -> Vec<String> {
     complaints
 }
 
+/// How many refusals there are.
+pub const REFUSALS: usize = 18;
+
 /// A row of one of the header's tables of refusals.
 #[derive(Debug, PartialEq)]
 struct Refusal {
@@ -508,7 +511,7 @@ pub fn other_refusals(repository: &Repository) -> Vec<String> {
             ));
         }
     }
-    for number in 1..=16 {
+    for number in 1..=REFUSALS {
         let number = number.to_string();
         let is_there = theirs.iter().any(|refusal| refusal.number == number);
         if !is_there || !ours.contains_key(number.as_str()) {
@@ -517,7 +520,7 @@ pub fn other_refusals(repository: &Repository) -> Vec<String> {
             ));
         }
     }
-    if ours.len() != 16 {
+    if ours.len() != REFUSALS {
         complaints.push(format!("{PAGE} has {} refusals", ours.len()));
     }
     complaints

@@ -665,8 +665,14 @@ fn an_edge_of_another_shape_is_noticed() {
     let free = format!("#[repr(C)]\n{verdict}");
     let account = "    account: u32,\n    buffer: &mut [u8],\n";
     let behind = "    buffer: &mut [u8],\n    account: u32,\n";
+    let both = "fn fervolatro_check<'a>(book: &'a [u8], locked: &'a [u8])";
     let changes = [
         (account, behind, "fervolatro_statement"),
+        (
+            both,
+            "fn fervolatro_check<'a>(book: &'a [u8])",
+            "fervolatro_check",
+        ),
         ("index: u64", "index: u32", "fervolatro_line"),
         ("number: u64", "number: u32", "fervolatro_balance"),
         (
@@ -757,6 +763,9 @@ fn a_refusal_in_other_words_is_noticed() {
         ("| 15 \\| ", "| 17 \\| ", "PastEnd"),
         ("row that is cut short", "row cut short", "DispatchRow"),
         ("Refusals: 16,", "Refusals: 17,", "DispatchRow"),
+        ("| 17 when ", "| 19 when ", "NoLocked"),
+        ("then 18 when the locked", "then 18 when a locked", "Locked"),
+        ("no book read names", "neither book names", "NoAccount"),
     ] {
         watch.notices(about, |changed| replace(changed, rules::PAGE, old, new));
     }
@@ -995,7 +1004,7 @@ fn a_number_that_stands_for_something_else_is_noticed() {
 fn a_refusal_of_other_words_is_noticed() {
     let repository = Repository::read();
     let watch = Watch::over(&repository, layout::other_refusals);
-    for number in 1..=16 {
+    for number in 1..=layout::REFUSALS {
         let about = format!("refusal {number}");
         watch.notices(&about, |changed| {
             let row = format!("\n| {number} | ");

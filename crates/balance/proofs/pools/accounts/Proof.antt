@@ -1,59 +1,70 @@
--- `balance::pools::accounts` meets its contract. The sections lie in the book, and the rows are in order. Assumes nothing.
+-- `balance::pools::accounts` meets its contract. Where no contract is a test payment the second book is the first. Assumes nothing.
 use borrow.Author.Needs.{needs}
-use Rattle.book.proofs.Room.{energies-room, units-room}
-use Rattle.balance.proofs.Resting.{sorted-at, counted-is}
+use Rattle.locking.proofs.Tests.{no-test}
+use Rattle.balance.proofs.Resting.{names-laid, counted-both, counted-alone}
 use Rattle.balance.proofs.pools.accounts.Statement.{statement}
 use Rattle.balance.proofs.pools.accounts.Tie as tie
 
-energies-at-requires : tie.Need-energies-at-requires
-energies-at-requires c κs = search needs
+contracts-at-requires : tie.Need-contracts-at-requires
+contracts-at-requires c κs = search needs
 
-units-at-requires : tie.Need-units-at-requires
-units-at-requires c κs = search needs
+sub-first-test : tie.Need-sub-first-test
+sub-first-test c = search needs
 
-sub-all-accounts : tie.Need-sub-all-accounts
-sub-all-accounts c = search needs
+part-first-test-start : tie.Need-part-first-test-start
+part-first-test-start c = search needs
 
-part-all-accounts-start : tie.Need-part-all-accounts-start
-part-all-accounts-start c = search needs
+part-first-test-end : tie.Need-part-first-test-end
+part-first-test-end c = search needs
 
-part-all-accounts-end : tie.Need-part-all-accounts-end
-part-all-accounts-end c = search needs
+cast-first-test : tie.Need-cast-first-test
+cast-first-test c = search needs
 
-cast-all-accounts : tie.Need-cast-all-accounts
-cast-all-accounts c = search needs
+first-test-requires : tie.Need-first-test-requires
+first-test-requires c κs = search needs
 
-sub-all-accounts-2 : tie.Need-sub-all-accounts-2
-sub-all-accounts-2 c = search needs
+enum-told : tie.Need-enum-told
+enum-told c = search needs
 
-part-all-accounts-start-2 : tie.Need-part-all-accounts-start-2
-part-all-accounts-start-2 c = search needs
+in-book-requires : tie.Need-in-book-requires
+in-book-requires c κs = search needs
 
-part-all-accounts-end-2 : tie.Need-part-all-accounts-end-2
-part-all-accounts-end-2 c = search needs
+enum-told-2 : tie.Need-enum-told-2
+enum-told-2 c = search needs
 
-cast-all-accounts-2 : tie.Need-cast-all-accounts-2
-cast-all-accounts-2 c = search needs
+naming-rows-requires : tie.Need-naming-rows-requires
+naming-rows-requires c κs = search needs
 
-all-accounts-requires : tie.Need-all-accounts-requires
-all-accounts-requires c κs = ((energies-room _ _ (c .before .before .before .before .before .before .before .pre .0) _ (c .before .before .before .before .before .energies-at .ensures), (c .before .before .before .before .before .before .before .pre .1 .sound .few .units, units-room _ _ (c .before .before .before .before .before .before .before .pre .0) _ (c .before .before .before .before .units-at .ensures))), sorted-at (c .before .before .before .before .before .before .before .args .book .now) (c .before .before .before .before .before .before .before .args .h) _ (c .before .before .before .before .before .energies-at .ensures) (c .before .before .before .before .before .before .before .pre .1))
+naming-rows-requires-2 : tie.Need-naming-rows-requires-2
+naming-rows-requires-2 c κs = search needs
+
+both-accounts-requires : tie.Need-both-accounts-requires
+both-accounts-requires c κs = let s = c .before .before .before .before .before .before .before .before .before .before in (names-laid (s .args .book .now) (s .args .h) (s .pre .1 .0 .0) (s .pre .0 .0) (c .before .naming-rows .ensures), names-laid (s .args .locked .now) (s .args .l) (s .pre .1 .0 .1) (s .pre .0 .1) (c .naming-rows2 .ensures))
 
 returns : tie.Need-returns
-returns c = counted-is (c .before .before .before .before .before .before .before .before .args .book .now) (c .before .before .before .before .before .before .before .before .args .h) _ (c .before .before .before .before .before .before .energies-at .ensures) _ (c .before .before .before .before .before .units-at .ensures) (c .all-accounts .ensures)
+returns c =
+    let s = c .before .before .before .before .before .before .before .before .before in
+    let told = no-test _ _ (rw (c .before .before .before .before .before .before .contracts-at .ensures) at (c .before .before .before .first-test .ensures)) (c .before .enum-told .given .1) in
+    counted-alone (s .args .book .now) (s .args .h) (s .args .locked .now) (s .args .l) (s .pre .1 .1 .0) (s .pre .1 .1 .1 .1) (s .pre .1 .1 .1 .0) told (c .in-book .ensures)
+
+returns-2 : tie.Need-returns-2
+returns-2 c = let s = c .before .before .before .before .before .before .before .before .before .before .before in counted-both (s .args .book .now) (s .args .h) (s .args .locked .now) (s .args .l) (c .before .before .naming-rows .ensures) (c .before .naming-rows2 .ensures) (c .both-accounts .ensures)
 
 pub accounts-spec : {M : Type 1} → statement M
 accounts-spec =
     tie.close
     (tie.spec
-    energies-at-requires
-    units-at-requires
-    sub-all-accounts
-    part-all-accounts-start
-    part-all-accounts-end
-    cast-all-accounts
-    sub-all-accounts-2
-    part-all-accounts-start-2
-    part-all-accounts-end-2
-    cast-all-accounts-2
-    all-accounts-requires
-    returns)
+    contracts-at-requires
+    sub-first-test
+    part-first-test-start
+    part-first-test-end
+    cast-first-test
+    first-test-requires
+    enum-told
+    in-book-requires
+    enum-told-2
+    naming-rows-requires
+    naming-rows-requires-2
+    both-accounts-requires
+    returns
+    returns-2)

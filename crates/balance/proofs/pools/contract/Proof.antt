@@ -21,7 +21,7 @@ mul-t7 c = search needs
 mul-t8 : tie.Need-mul-t8
 mul-t8 c =
     let start = c .before .before .before .before in
-    omega (arith, mul-le-mul {n₁ = c .before .before .payments .result .regions} {m₁ = 2 * start .args .count} {n₂ = 5} {m₂ = 3248} (c .before .before .payments .ensures .few) (omega (arith, start .pre .1 .1 .1)))
+    omega (arith, mul-le-mul {n₁ = c .before .before .payments .result .regions} {m₁ = 2 * start .args .count} {n₂ = 5} {m₂ = 6496} (c .before .before .payments .ensures .few) (omega (arith, start .pre .1 .1 .1)))
 
 net-requires : tie.Need-net-requires
 net-requires c κs = (omega arith, omega (arith, c .before .before .payments .ensures .small))

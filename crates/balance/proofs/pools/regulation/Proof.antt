@@ -11,7 +11,7 @@ use Rattle.balance.proofs.pools.regulation.Statement.{statement}
 use Rattle.balance.proofs.pools.regulation.Tie as tie
 
 recovery-of-requires : tie.Need-recovery-of-requires
-recovery-of-requires c κs = constraint-rule (c .before .pre .1 .0) _ (c .before .pre .1 .1 .0)
+recovery-of-requires c κs = constraint-rule (c .before .pre .1 .0) _ (c .before .pre .1 .1 .0 .0)
 
 units-at-requires : tie.Need-units-at-requires
 units-at-requires c κs = search needs
@@ -32,8 +32,8 @@ unit-sums-requires : tie.Need-unit-sums-requires
 unit-sums-requires c κs =
     let start = c .before .before .before .before .before in
     let from = c .before .before .units-at .ensures in
-    let known = start .pre .1 .0 .sound in
-    ((units-room _ _ (start .pre .0) _ from, recovery-small _ _ (constraint-rule (start .pre .1 .0) _ (start .pre .1 .1 .0)) (c .before .before .before .recovery-of .ensures) .pool), rw from (record { few = known .few .units; rules = known .fields .units; keep = record { keep = known .ordered .units .first } }))
+    let known = start .pre .1 .0 in
+    ((units-room _ _ (start .pre .0) _ from, recovery-small _ _ (constraint-rule (start .pre .1 .0) _ (start .pre .1 .1 .0 .0)) (c .before .before .before .recovery-of .ensures) .pool), rw from (record { few = known .few .units; rules = known .fields .units; keep = record { keep = known .ordered .units .first } }))
 
 sub-bytes : tie.Need-sub-bytes
 sub-bytes c = search needs
@@ -55,9 +55,9 @@ over-regions-requires c κs =
     let recovered = c .before .before .before .before .before .before .before in
     let start = recovered .before .before in
     let o = start .pre .1 .1 .0 in
-    shares-over (start .args .book .now) (start .args .h) _ (c .before .part-of .ensures) (start .pre .0) (start .pre .1 .0) _ o _ _
+    shares-over (start .args .book .now) (start .args .h) _ (c .before .part-of .ensures) (start .pre .0) (start .pre .1 .0) _ (o .1) _ _
     (c .divisor .ensures)
-    (recovery-small _ _ (constraint-rule (start .pre .1 .0) _ o) (recovered .recovery-of .ensures) .credit)
+    (recovery-small _ _ (constraint-rule (start .pre .1 .0) _ (o .0)) (recovered .recovery-of .ensures) .credit)
 
 over-regions-requires-2 : tie.Need-over-regions-requires-2
 over-regions-requires-2 c κs =
@@ -65,33 +65,33 @@ over-regions-requires-2 c κs =
     let recovered = whole .before .before .before .before .before .before .before in
     let start = recovered .before .before in
     let o = start .pre .1 .1 .0 in
-    shares-over (start .args .book .now) (start .args .h) _ (whole .before .part-of .ensures) (start .pre .0) (start .pre .1 .0) _ o _ _
+    shares-over (start .args .book .now) (start .args .h) _ (whole .before .part-of .ensures) (start .pre .0) (start .pre .1 .0) _ (o .1) _ _
     (whole .divisor .ensures)
-    (recovery-small _ _ (constraint-rule (start .pre .1 .0) _ o) (recovered .recovery-of .ensures) .charge)
+    (recovery-small _ _ (constraint-rule (start .pre .1 .0) _ (o .0)) (recovered .recovery-of .ensures) .charge)
 
 signed-requires : tie.Need-signed-requires
-signed-requires c κs = let start = c .before .before .before .before .before .before .before .before .before .before .before in omega (arith, recovery-small _ _ (constraint-rule (start .pre .1 .0) _ (start .pre .1 .1 .0)) (c .before .before .before .before .before .before .before .before .before .recovery-of .ensures) .amount)
+signed-requires c κs = let start = c .before .before .before .before .before .before .before .before .before .before .before in omega (arith, recovery-small _ _ (constraint-rule (start .pre .1 .0) _ (start .pre .1 .1 .0 .0)) (c .before .before .before .before .before .before .before .before .before .recovery-of .ensures) .amount)
 
 add-t18 : tie.Need-add-t18
 add-t18 c =
     let start = c .before .before .before .before .before .before .before .before .before .before .before .before .before in
-    omega (arith, c .before .before .before .before .before .before .before .unit-sums .ensures .few, start .pre .1 .0 .sound .few .units, start .pre .1 .1 .1 .few)
+    omega (arith, c .before .before .before .before .before .before .before .unit-sums .ensures .few, start .pre .1 .0 .few .units, start .pre .1 .1 .1)
 
 add-net : tie.Need-add-net
 add-net c =
     let turn = c .before .before .before .before in
-    omega (arith, turn .before .before .before .before .unit-sums .ensures .credit-small, turn .before .before .before .before .before .before .before .before .before .before .pre .1 .0 .sound .few .units, turn .over-regions .ensures .small)
+    omega (arith, turn .before .before .before .before .unit-sums .ensures .credit-small, turn .before .before .before .before .before .before .before .before .before .before .pre .1 .0 .few .units, turn .over-regions .ensures .small)
 
 add-net-2 : tie.Need-add-net-2
 add-net-2 c =
     let turn = c .before .before .before .before .before in
-    omega (arith, turn .before .before .before .before .unit-sums .ensures .charge-small, turn .before .before .before .before .before .before .before .before .before .before .pre .1 .0 .sound .few .units, c .before .before .before .before .over-regions2 .ensures .small)
+    omega (arith, turn .before .before .before .before .unit-sums .ensures .charge-small, turn .before .before .before .before .before .before .before .before .before .before .pre .1 .0 .few .units, c .before .before .before .before .over-regions2 .ensures .small)
 
 net-requires : tie.Need-net-requires
 net-requires c κs =
     let turn = c .before .before .before .before .before in
     let sums = turn .before .before .before .before .unit-sums .ensures in
-    let few = turn .before .before .before .before .before .before .before .before .before .before .pre .1 .0 .sound .few .units in
+    let few = turn .before .before .before .before .before .before .before .before .before .before .pre .1 .0 .few .units in
     (omega (arith, sums .credit-small, few, turn .over-regions .ensures .small), omega (arith, sums .charge-small, few, c .before .before .before .before .over-regions2 .ensures .small))
 
 returns : tie.Need-returns
@@ -103,7 +103,7 @@ returns c =
     let start = turn .before .before .before .before .before .before .before .before .before .before in
     let book = start .args .book .now in
     let h = start .args .h in
-    regulation-is (bookIn book h) _ (start .pre .1 .1 .1) _ _ _ (sums .before .before .before .before .recovery-of .ensures) (rw units at (sums .unit-sums .ensures)) (part-in book h e (turn .over-regions .ensures)) (part-in book h e (c .before .before .before .before .before .over-regions2 .ensures)) (toZ-ofZ (sfits-of (c .before .before .before .before .signed .ok)) ∙ c .before .before .before .before .signed .ensures) (toZ-ofZ (sfits-of (c .net .ok)) ∙ c .net .ensures)
+    regulation-is (bookIn book h) _ _ _ _ (sums .before .before .before .before .recovery-of .ensures) (rw units at (sums .unit-sums .ensures)) (part-in book h e (turn .over-regions .ensures)) (part-in book h e (c .before .before .before .before .before .over-regions2 .ensures)) (toZ-ofZ (sfits-of (c .before .before .before .before .signed .ok)) ∙ c .before .before .before .before .signed .ensures) (toZ-ofZ (sfits-of (c .net .ok)) ∙ c .net .ensures)
 
 pub regulation-spec : {M : Type 1} → statement M
 regulation-spec =

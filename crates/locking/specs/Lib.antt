@@ -1,0 +1,2 @@
+pub mod Locking
+pub mod Inner
