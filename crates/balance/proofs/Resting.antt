@@ -20,6 +20,7 @@ use Rattle.book.specs.Book.{Book, bookIn}
 use Rattle.book.specs.Header.{headerOf, unitsFrom, energiesFrom}
 use Rattle.book.specs.Inner.Facts.{Laid}
 use Rattle.book.specs.Inner.Accepted.{Sound, StandsIn}
+use Rattle.book.proofs.Second.{stands-same}
 use Rattle.book.specs.declared.header.Header.{Header}
 use Rattle.accounts.specs.Inner.Energies.{energiesOf, PartOf}
 use Rattle.accounts.proofs.Parts.{sound-of, part-energies, part-laid, part-sound}
@@ -75,10 +76,7 @@ counted-both b h l k n m z =
 
 -- where the second stands for the first
 pub counted-alone : (b : List ℕ) (h : Header) (s : List ℕ) (k : Header) → StandsIn b h s → h ≡ headerOf b → k ≡ headerOf s → readsLocked (bookIn b h .contract) (h .contracts) ≡ false → {c : ℕ} → Counted (bookIn b h) (bookIn b h) c → Counted (bookIn b h) (bookIn s k) c
-counted-alone b h s k t i j r z =
-    let same = t .unread r in
-    let header : k ≡ h = j ∙ ap headerOf same ∙ sym i in
-    rw (same, header) z
+counted-alone b h s k t i j r z = rw (j, stands-same b h s t i r) z
 
 -- what is shared by the energies of the part is shared by the book's
 pub part-in : (b : List ℕ) (h : Header) {p : EnergyPart} → PartOf h p → {r : Constraint} {amount x : ℕ} → PartIs (energiesIn (partFrom 24 b) p) r amount x → PartIs (energiesOf (bookIn b h)) r amount x

@@ -1,4 +1,4 @@
-//! Checks 1 to 10, each section passed once.
+//! Checks 1 to 10, 17 and 18, each section passed once.
 //!
 //! Sections are passed in the order in which they stand, so the first fault of 5 is
 //! the one to report, and ends it. Of 6 to 10 the first place is noted on the way;

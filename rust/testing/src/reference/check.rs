@@ -1,4 +1,4 @@
-//! Checks 1 to 10 of a book, with the locked one beside it.
+//! Checks 1 to 10, 17 and 18 of a book, with the locked one beside it.
 
 use super::locked::{locked_beside, Read};
 use super::{refuse_at, refuse_unless};
