@@ -1,3 +1,7 @@
 pub mod Spelling
 pub mod Writing
-pub mod Rooms
+pub mod Standing
+pub mod Reading
+pub mod Once
+pub mod Signs
+pub mod Trip

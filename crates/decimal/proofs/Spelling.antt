@@ -1,10 +1,10 @@
 -- The spelling of a number, digit by digit: what holds below 10, and of x where it holds of x / 10, holds of every number. Assumes nothing.
-use Prim.Native.Nat.{ℕ, zero, suc, _+_, _*_, _/_, _%_, _^_, _≤_, _<_}
+use Prim.Native.Nat.{ℕ, zero, suc, _+_, _/_, _%_, _^_, _≤_, _<_}
 use mathlib.Core.Path.{_≡_, refl, sym, ap, _∙_}
-use mathlib.Core.List.{List, [], _∷_, _++_}
-use mathlib.Core.Logic.{_⊎_, inl, inr, ⊎-elim}
+use mathlib.Core.List.{List, _∷_, _++_}
+use mathlib.Core.Logic.{⊎-elim}
 use native.Mathlib.Omega.{arith}
-use native.Mathlib.Nat.{le-refl, pow-suc, pow-succ', div-div-eq-div-mul, div-one, div-lt-iff-lt-mul}
+use native.Mathlib.Nat.{le-refl, pow-suc, pow-succ', div-div-eq-div-mul, div-one, div-le-self, div-lt-iff-lt-mul}
 use native.Mathlib.Numerals.{add-one}
 use borrow.Author.Tests.{lt-ltb, le-ltb}
 use lib.ListN.{length, length-append}
@@ -16,7 +16,7 @@ module _ (P : ℕ → Type 0) (one : (x : ℕ) → x < 10 → P x) (more : (x : 
   tens zero x h = one x (omega arith)
   tens (suc n) x h = ⊎-elim (λ l. one x l) (λ g. more x g (tens n (x / 10) (omega arith))) (lt-or-ge x 10)
 
-  by-tens : (x : ℕ) → P x
+  pub by-tens : (x : ℕ) → P x
   by-tens x = tens x x (le-refl x)
 
 -- any n that is at least x will do
@@ -30,12 +30,12 @@ enough (suc m) (suc n) x h g =
     (λ l. rw (le-ltb x 10 l) (ap (λ (a : List ℕ). a ++ digitText (x % 10)) (enough m n (x / 10) (omega arith) (omega arith))))
     (lt-or-ge x 10)
 
-one-digit : (x : ℕ) → x < 10 → decimalOf x ≡ digitText x
+pub one-digit : (x : ℕ) → x < 10 → decimalOf x ≡ digitText x
 unfolding decimalOf decimalWithin
 one-digit zero h = refl
 one-digit (suc x) h = rw (lt-ltb (suc x) 10 h)
 
-more-digits : (x : ℕ) → 10 ≤ x → decimalOf x ≡ decimalOf (x / 10) ++ digitText (x % 10)
+pub more-digits : (x : ℕ) → 10 ≤ x → decimalOf x ≡ decimalOf (x / 10) ++ digitText (x % 10)
 unfolding decimalOf decimalWithin
 more-digits zero h = absurd (omega arith)
 more-digits (suc x) h =
@@ -44,7 +44,7 @@ more-digits (suc x) h =
 
 -- ---- how many digits
 
-some-digit : (x : ℕ) → 1 ≤ length (decimalOf x)
+pub some-digit : (x : ℕ) → 1 ≤ length (decimalOf x)
 some-digit =
     by-tens (λ x. 1 ≤ length (decimalOf x))
     (λ x h. rw (one-digit x h) (omega arith))
@@ -61,15 +61,43 @@ few-digits (suc n) x h =
     (λ l. rw (more-digits x l, length-append) (omega (arith, few-digits n (x / 10) (tenth-below x n h))))
     (lt-or-ge x 10)
 
+-- how many numbers of two, three and four digits have
+two-digits : (x : ℕ) → 10 ≤ x → x < 100 → length (decimalOf x) ≡ 2
+two-digits x h g = rw (more-digits x h, length-append, one-digit (x / 10) (omega arith)) refl
+
+three-digits : (x : ℕ) → 100 ≤ x → x < 1000 → length (decimalOf x) ≡ 3
+three-digits x h g = rw (more-digits x (omega arith), length-append, two-digits (x / 10) (omega arith) (omega arith)) refl
+
+four-digits : (x : ℕ) → 1000 ≤ x → x < 10_000 → length (decimalOf x) ≡ 4
+four-digits x h g = rw (more-digits x (omega arith), length-append, three-digits (x / 10) (omega arith) (omega arith)) refl
+
+-- one more than x / 10 has
+tenth : (x : ℕ) → 10 ≤ x → length (decimalOf x) ≡ length (decimalOf (x / 10)) + 1
+tenth x h = rw (more-digits x h, length-append) refl
+
 -- the loop that counts digits: n are counted, and rest is what is left above all of them but one
-pub count-more : (x rest n : ℕ) → n + length (decimalOf rest) ≡ length (decimalOf x) + 1 → 10 ≤ rest → n + 1 + length (decimalOf (rest / 10)) ≡ length (decimalOf x) + 1
-count-more x rest n e h = omega (arith, e, rw (more-digits rest h, length-append) at e)
+module _ (x rest n : ℕ) (e : n + length (decimalOf rest) ≡ length (decimalOf x) + 1) where
+  pub count-more : 10_000 ≤ rest → n + 4 + length (decimalOf (rest / 10_000)) ≡ length (decimalOf x) + 1
+  count-more h =
+      let q : rest / 10 / 10 / 10 / 10 ≡ rest / 10_000 = omega arith in
+      rw (← q)
+      (omega
+      (arith, e, tenth rest (omega arith), tenth (rest / 10) (omega arith), tenth (rest / 10 / 10) (omega arith), tenth (rest / 10 / 10 / 10) (omega arith)))
 
-pub count-end : (x rest n : ℕ) → n + length (decimalOf rest) ≡ length (decimalOf x) + 1 → rest < 10 → n ≡ length (decimalOf x)
-count-end x rest n e h = omega (arith, rw (one-digit rest h) at e)
+  pub count-fits : x < 2 ^ 64 → n ≤ 20
+  count-fits h = omega (arith, e, few-digits 19 x (omega arith), some-digit rest)
 
-pub count-fits : (x rest n : ℕ) → x < 2 ^ 64 → n + length (decimalOf rest) ≡ length (decimalOf x) + 1 → n ≤ 20
-count-fits x rest n h e = omega (arith, few-digits 19 x (omega arith), some-digit rest)
+  pub count-four : rest < 10_000 → 1000 ≤ rest → n + 3 ≡ length (decimalOf x)
+  count-four g h = omega (arith, e, four-digits rest h g)
+
+  pub count-three : rest < 1000 → 100 ≤ rest → n + 2 ≡ length (decimalOf x)
+  count-three g h = omega (arith, e, three-digits rest h g)
+
+  pub count-two : rest < 100 → 10 ≤ rest → n + 1 ≡ length (decimalOf x)
+  count-two g h = omega (arith, e, two-digits rest h g)
+
+  pub count-one : rest < 10 → n ≡ length (decimalOf x)
+  count-one g = omega (arith, e, ap length (one-digit rest g))
 
 -- ---- the last digits
 
@@ -79,7 +107,7 @@ last-length zero x = refl
 last-length (suc n) x = rw (length-append, last-length n (x / 10)) (omega arith)
 
 -- one place more is dropped, below or above
-drop-place : (x n : ℕ) → x / 10 ^ suc n ≡ x / 10 / 10 ^ n
+pub drop-place : (x n : ℕ) → x / 10 ^ suc n ≡ x / 10 / 10 ^ n
 drop-place x n = rw pow-succ' (sym (div-div-eq-div-mul x 10 (10 ^ n)))
 
 pub drop-last : (x n : ℕ) → x / 10 ^ (n + 1) ≡ x / 10 ^ n / 10
@@ -98,3 +126,20 @@ pub last-front : (n x : ℕ) → lastDigits (suc n) x ≡ (48 + x / 10 ^ n % 10)
 unfolding lastDigits
 last-front zero x = rw div-one
 last-front (suc n) x = ap (λ (a : List ℕ). a ++ digitText (x % 10)) (last-front n (x / 10)) ∙ rw (drop-place x n)
+
+-- ---- how many digits are left without the last d
+
+pub some-left : (d x : ℕ) → d < length (decimalOf x) → length (decimalOf (x / 10 ^ d)) + d ≡ length (decimalOf x)
+some-left zero x h = rw div-one (omega arith)
+some-left (suc d) x h =
+    ⊎-elim (λ (l : x < 10). absurd (omega (arith, ap length (one-digit x l))))
+    (λ (l : 10 ≤ x). rw (drop-place x d) (omega (arith, tenth x l, some-left d (x / 10) (omega (arith, tenth x l)))))
+    (lt-or-ge x 10)
+
+pub none-left : (d x : ℕ) → length (decimalOf x) ≤ d → length (decimalOf (x / 10 ^ d)) ≡ 1
+none-left zero x h = absurd (omega (arith, some-digit x))
+none-left (suc d) x h =
+    ⊎-elim
+    (λ l. let z : x / 10 / 10 ^ d ≡ 0 = omega (arith, div-le-self (x / 10) (10 ^ d)) in rw (drop-place x d, z, one-digit 0 (omega arith)) refl)
+    (λ l. rw (drop-place x d) (none-left d (x / 10) (omega (arith, tenth x l))))
+    (lt-or-ge x 10)

@@ -1,10 +1,12 @@
-// Numbers, words and amounts as text, written into a lent slice. Each writer answers where its bytes end; every other byte is as it was.
+// Numbers as decimal text, written into a lent slice. Each writer answers where its bytes end; every other byte is as it was.
 ghost use mathlib.Core.Path.{_≡_};
 ghost use mathlib.Core.List.{[], _∷_};
-ghost use Prim.Native.Nat.{_+_, _≤_, _<_};
+ghost use Prim.Native.Nat.{_+_, _/_, _%_, _^_, _≤_, _<_};
 ghost use lib.ListN.{length};
+ghost use Rattle.ground.specs.Put.{put};
 ghost use Rattle.ground.specs.Inner.Put.{Wrote};
-ghost use Rattle.decimal.specs.Decimal.{decimalOf, lastDigits, namedText, minusText, dollarsOf};
+ghost use Rattle.decimal.specs.Decimal.{decimalOf, numberText, signedText};
+ghost use Rattle.decimal.specs.Inner.Filled.{Filled};
 use ground::write;
 use numbers::sign;
 
@@ -23,80 +25,127 @@ fn digit(x: u64) -> u8
     b'0' + (x as u8)
 }
 
-// How many digits x has.
+// How many digits x has, counted by fours.
 fn width(x: u64) -> usize
     ensures { λ r. ⌜ r ≡ length (decimalOf x) ⌝ }
 {
     let mut rest = x;
     let mut n = 1;
-    while 10 <= rest {
-        rest = rest / 10;
-        n += 1;
+    while 10_000 <= rest {
+        rest = rest / 10_000;
+        n += 4;
+    }
+    if 1000 <= rest {
+        return n + 3;
+    }
+    if 100 <= rest {
+        return n + 2;
+    }
+    if 10 <= rest {
+        return n + 1;
     }
     n
 }
 
-// The last n digits of x, from the last to the first.
-fn put_last(text: &mut [u8], at: usize, n: usize, x: u64) -> usize
-    requires { ⌜ at + n ≤ length (now text) ⌝ }
-    ensures { λ r. ⌜ Wrote (now (text .entry)) at (lastDigits n x) (now (text .exit)) r ⌝ }
+// How many digits x is written with where `decimals` of them stand behind a point: at least one stands before it.
+fn places(x: u64, decimals: usize) -> usize
+    requires { ⌜ decimals < 2 ^ 63 ⌝ }
+    ensures { λ r. ⌜ r ≡ length (decimalOf (x / 10 ^ decimals)) + decimals ⌝ }
 {
-    let mut rest = x;
-    let mut m = 0;
-    while m < n {
-        write::put_u8(text, at + (n - (m + 1)), digit(rest % 10));
-        rest = rest / 10;
-        m += 1;
+    let n = width(x);
+    if decimals < n {
+        return n;
     }
-    at + n
+    decimals + 1
 }
 
-pub fn put_number(text: &mut [u8], at: usize, x: u64) -> usize
+// How many bytes `put_number` writes.
+pub fn number_length(x: u64, decimals: usize) -> usize
+    requires { ⌜ decimals ≤ 20 ⌝ }
+    ensures { λ r. ⌜ (r ≡ length (numberText x decimals)) × (r ≤ 41) ⌝ }
+{
+    let n = places(x, decimals);
+    if decimals == 0 {
+        return n;
+    }
+    n + 1
+}
+
+// How many bytes `put_signed` writes.
+pub fn signed_length(x: i64, decimals: usize) -> usize
+    requires { ⌜ decimals ≤ 20 ⌝ }
+    ensures { λ r. ⌜ (r ≡ length (signedText x decimals)) × (r ≤ 42) ⌝ }
+{
+    let n = number_length(sign::size(x), decimals);
+    if sign::is_negative(x) {
+        return n + 1;
+    }
+    n
+}
+
+// A number below 100 by two digits.
+fn put_pair(text: &mut [u8], at: usize, x: u64)
+    requires { ⌜ (at + 2 ≤ length (now text)) × (x < 100) ⌝ }
+    ensures { λ _. ⌜ now (text .exit) ≡ put (now (text .entry)) at ((48 + x / 10) ∷ (48 + x % 10) ∷ []) ⌝ }
+{
+    write::put_u8(text, at, digit(x / 10));
+    write::put_u8(text, at + 1, digit(x % 10));
+}
+
+// The last n digits of x, two by two from the last to the first; the answer is what is left of x above them.
+fn put_last(text: &mut [u8], at: usize, n: usize, x: u64) -> u64
+    requires { ⌜ at + n ≤ length (now text) ⌝ }
+    ensures { λ r. ⌜ Filled (now (text .entry)) at n x (now (text .exit)) r ⌝ }
+{
+    let mut rest = x;
+    let mut free = n;
+    while 2 <= free {
+        free -= 2;
+        put_pair(text, at + free, rest % 100);
+        rest = rest / 100;
+    }
+    if free == 1 {
+        write::put_u8(text, at, digit(rest % 10));
+        return rest / 10;
+    }
+    rest
+}
+
+// The digits of x.
+pub fn put_whole(text: &mut [u8], at: usize, x: u64) -> usize
     requires { ⌜ at + length (decimalOf x) ≤ length (now text) ⌝ }
     ensures { λ r. ⌜ Wrote (now (text .entry)) at (decimalOf x) (now (text .exit)) r ⌝ }
 {
-    put_last(text, at, width(x), x)
+    let n = width(x);
+    put_last(text, at, n, x);
+    at + n
 }
 
-fn put_word(text: &mut [u8], at: usize, word: &[u8]) -> usize
-    requires { ⌜ at + length (now word) ≤ length (now text) ⌝ }
-    ensures { λ r. ⌜ Wrote (now (text .entry)) at (now (word .entry)) (now (text .exit)) r ⌝ }
+// x with a point before its last digits, as many as `decimals` says. The digits are taken from the last on, so that each is divided off once.
+pub fn put_number(text: &mut [u8], at: usize, x: u64, decimals: usize) -> usize
+    requires { ⌜ at + length (numberText x decimals) ≤ length (now text) ⌝ }
+    ensures { λ r. ⌜ Wrote (now (text .entry)) at (numberText x decimals) (now (text .exit)) r ⌝ }
 {
-    let mut i = 0;
-    while i < word.len() {
-        write::put_u8(text, at + i, word[i]);
-        i += 1;
+    if decimals == 0 {
+        return put_whole(text, at, x);
     }
-    at + word.len()
+    let point = at + (places(x, decimals) - decimals);
+    let rest = put_last(text, point + 1, decimals, x);
+    write::put_u8(text, point, b'.');
+    put_last(text, at, point - at, rest);
+    point + 1 + decimals
 }
 
-// A word, and the number that it leads to.
-pub fn put_named(text: &mut [u8], at: usize, word: &[u8], x: u64) -> usize
-    requires { ⌜ at + length (namedText (now word) x) ≤ length (now text) ⌝ }
-    ensures { λ r. ⌜ Wrote (now (text .entry)) at (namedText (now (word .entry)) x) (now (text .exit)) r ⌝ }
+// The same of a number with a sign: a minus first where it is below 0.
+pub fn put_signed(text: &mut [u8], at: usize, x: i64, decimals: usize) -> usize
+    requires { ⌜ at + length (signedText x decimals) ≤ length (now text) ⌝ }
+    ensures { λ r. ⌜ Wrote (now (text .entry)) at (signedText x decimals) (now (text .exit)) r ⌝ }
 {
-    let e = put_word(text, at, word);
-    put_number(text, e, x)
-}
-
-fn put_minus(text: &mut [u8], at: usize, negative: bool) -> usize
-    requires { ⌜ at + length (minusText negative) ≤ length (now text) ⌝ }
-    ensures { λ r. ⌜ Wrote (now (text .entry)) at (minusText negative) (now (text .exit)) r ⌝ }
-{
-    if negative {
-        return put_byte(text, at, b'-');
+    let size = sign::size(x);
+    let below = sign::is_negative(x);
+    if below {
+        let p = put_byte(text, at, b'-');
+        return put_number(text, p, size, decimals);
     }
-    at
-}
-
-// An amount in ten-thousandths of a dollar, in dollars to four places.
-pub fn put_dollars(text: &mut [u8], at: usize, amount: i64) -> usize
-    requires { ⌜ at + length (dollarsOf amount) ≤ length (now text) ⌝ }
-    ensures { λ r. ⌜ Wrote (now (text .entry)) at (dollarsOf amount) (now (text .exit)) r ⌝ }
-{
-    let size = sign::size(amount);
-    let m = put_minus(text, at, sign::is_negative(amount));
-    let e = put_number(text, m, size / 10_000);
-    let p = put_byte(text, e, b'.');
-    put_last(text, p, 4, size)
+    put_number(text, at, size, decimals)
 }

@@ -13,7 +13,8 @@ use Rattle.ground.proofs.Put.{wrote-length}
 use Rattle.ground.proofs.Back.{u16-small, u32-small, u64-small}
 use Rattle.decimal.specs.Decimal.{decimalOf}
 use Rattle.decimal.proofs.Spelling.{few-digits}
-use Rattle.decimal.proofs.Rooms.{Space, space-front, dollars-short}
+use Rattle.decimal.proofs.Signs.{signed-short}
+use Rattle.words.proofs.Rooms.{Space, space-front}
 use Rattle.parsing.specs.Parsing.{headingAt, lineFrom, lineAt, linesIn}
 use Rattle.statement.specs.declared.Line.{Line}
 use Rattle.printing.specs.Printing.{refusalPieces, refusalText, headingText, lineText, linesText}
@@ -67,7 +68,7 @@ module _ (s : List ℕ) (b : AreBytes s) where
       let k = lineFrom i in
       simp length-append
       (omega
-      (arith, short32 (u32At s k) (u32-small s b k), short8 (byteAt s (k + 4)) (b (k + 4)), short8 (byteAt s (k + 5)) (b (k + 5)), short32 (u32At s (k + 8)) (u32-small s b (k + 8)), dollars-short (i64At s (k + 16)) (amount-short (k + 16))))
+      (arith, short32 (u32At s k) (u32-small s b k), short8 (byteAt s (k + 4)) (b (k + 4)), short8 (byteAt s (k + 5)) (b (k + 5)), short32 (u32At s (k + 8)) (u32-small s b (k + 8)), signed-short 15 (i64At s (k + 16)) 4 (omega (arith, amount-short (k + 16)))))
 
   pub lines-short : (n : ℕ) → length (linesText (linesIn s n)) ≤ n * 53
   unfolding linesIn linesText

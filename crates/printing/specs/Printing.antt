@@ -2,7 +2,9 @@
 -- places, any minus first". Each line ends in a line feed.
 use Prim.Native.Nat.{ℕ}
 use mathlib.Core.List.{List, [], _∷_, _++_}
-use Rattle.decimal.specs.Decimal.{inRow, decimalOf, namedText, dollarsOf}
+use lib.IntN.{ℤ}
+use Rattle.decimal.specs.Decimal.{decimalOf, signedText}
+use Rattle.words.specs.Words.{inRow, namedText}
 use Rattle.statement.specs.declared.Heading.{Heading}
 use Rattle.statement.specs.declared.Line.{Line}
 
@@ -44,6 +46,10 @@ abbrev pub linesWord : List ℕ
 linesWord = 32 ∷ 108 ∷ 105 ∷ 110 ∷ 101 ∷ 115 ∷ 32 ∷ []
 
 -- ---- lines of text
+
+-- "dollars to four places, any minus first": an amount is in ten-thousandths of a dollar
+abbrev pub dollarsOf : ℤ → List ℕ
+dollarsOf z = signedText z 4
 
 -- "A refusal prints `refused N at PLACE`."
 abbrev pub refusalPieces : ℕ → ℕ → List (List ℕ)

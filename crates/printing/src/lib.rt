@@ -15,8 +15,8 @@ pub fn put_refusal(text: &mut [u8], number: u8, place: usize) -> usize
     requires { ⌜ 36 ≤ length (now text) ⌝ }
     ensures { λ r. ⌜ Said (now (text .entry)) (refusalText number place) (now (text .exit)) r ⌝ }
 {
-    let n = decimal::put_named(text, 0, b"refused ", number as u64);
-    let p = decimal::put_named(text, n, b" at ", place as u64);
+    let n = words::put_named(text, 0, b"refused ", number as u64);
+    let p = words::put_named(text, n, b" at ", place as u64);
     decimal::put_byte(text, p, b'\n')
 }
 
@@ -25,11 +25,11 @@ pub fn put_heading(text: &mut [u8], h: Heading) -> usize
     requires { ⌜ length (headingText h) ≤ length (now text) ⌝ }
     ensures { λ r. ⌜ Wrote (now (text .entry)) 0 (headingText h) (now (text .exit)) r ⌝ }
 {
-    let account = decimal::put_named(text, 0, b"account ", h.account as u64);
-    let date = decimal::put_named(text, account, b" date ", h.date as u64);
-    let interval = decimal::put_named(text, date, b" interval ", h.interval as u64);
-    let run = decimal::put_named(text, interval, b" run ", h.run as u64);
-    let lines = decimal::put_named(text, run, b" lines ", h.lines as u64);
+    let account = words::put_named(text, 0, b"account ", h.account as u64);
+    let date = words::put_named(text, account, b" date ", h.date as u64);
+    let interval = words::put_named(text, date, b" interval ", h.interval as u64);
+    let run = words::put_named(text, interval, b" run ", h.run as u64);
+    let lines = words::put_named(text, run, b" lines ", h.lines as u64);
     decimal::put_byte(text, lines, b'\n')
 }
 
@@ -38,12 +38,12 @@ pub fn put_line(text: &mut [u8], at: usize, l: Line) -> usize
     requires { ⌜ at + length (lineText l) ≤ length (now text) ⌝ }
     ensures { λ r. ⌜ Wrote (now (text .entry)) at (lineText l) (now (text .exit)) r ⌝ }
 {
-    let id = decimal::put_number(text, at, l.id as u64);
-    let part = decimal::put_named(text, id, b" ", l.part as u64);
-    let regions = decimal::put_named(text, part, b" ", l.regions as u64);
-    let unit = decimal::put_named(text, regions, b" ", l.unit as u64);
+    let id = decimal::put_whole(text, at, l.id as u64);
+    let part = words::put_named(text, id, b" ", l.part as u64);
+    let regions = words::put_named(text, part, b" ", l.regions as u64);
+    let unit = words::put_named(text, regions, b" ", l.unit as u64);
     let blank = decimal::put_byte(text, unit, b' ');
-    let dollars = decimal::put_dollars(text, blank, l.amount);
+    let dollars = decimal::put_signed(text, blank, l.amount, 4);
     decimal::put_byte(text, dollars, b'\n')
 }
 

@@ -2,7 +2,7 @@
 use mathlib.Core.Path.{_∙_}
 use borrow.Author.Needs.{needs}
 use Rattle.ground.proofs.Put.{wrote-more, wrote-length}
-use Rattle.decimal.proofs.Rooms.{space-front, space-first, space-rest}
+use Rattle.words.proofs.Rooms.{space-front, space-first, space-rest}
 use Rattle.printing.specs.Printing.{headingPieces, headingText}
 use Rattle.printing.proofs.put_heading.Statement.{statement}
 use Rattle.printing.proofs.put_heading.Tie as tie

@@ -2,7 +2,7 @@
 use mathlib.Core.Path.{_∙_}
 use borrow.Author.Needs.{needs}
 use Rattle.ground.proofs.Put.{wrote-more, wrote-length}
-use Rattle.decimal.proofs.Rooms.{space-first, space-rest}
+use Rattle.words.proofs.Rooms.{space-first, space-rest}
 use Rattle.printing.specs.Printing.{refusalText}
 use Rattle.printing.proofs.Lengths.{refusal-space, said-refusal}
 use Rattle.printing.proofs.put_refusal.Statement.{statement}

@@ -1,12 +1,11 @@
--- `decimal::put_word` meets its contract. The invariant: the first i bytes stand. Assumes nothing.
+-- `words::put_word` meets its contract. The invariant: the first i bytes stand. Assumes nothing.
 use Prim.Native.Nat.{_-_}
 use lib.ListN.{length}
-use native.Mathlib.Omega.{arith}
 use Rattle.ground.proofs.Put.{wrote-length}
 use borrow.Author.Needs.{needs}
-use Rattle.decimal.proofs.Writing.{Copied, copied-none, copied-room, copied-more, copied-all}
-use Rattle.decimal.proofs.put_word.Statement.{statement}
-use Rattle.decimal.proofs.put_word.Tie as tie
+use Rattle.words.proofs.Letters.{Copied, copied-none, copied-room, copied-more, copied-all}
+use Rattle.words.proofs.put_word.Statement.{statement}
+use Rattle.words.proofs.put_word.Tie as tie
 
 abbrev Inv-loop : tie.InvT-loop
 Inv-loop text₀ k word i₀ text i = Copied text₀ k word i text
