@@ -1,7 +1,8 @@
 /*
  * Fervolatro: the checks of a book of one five-minute trading interval, the
  * statement of one account and its length, the balance of a pool, statements
- * read back, and the payments and base costs that dispatch rows make.
+ * read back, the payments and base costs that dispatch rows make, and the
+ * reconciliation file for restart contracts (NMAS), written and read back.
  *
  * A call reads the bytes it is lent and writes at most the buffer it is lent:
  * it keeps nothing from one call to the next, and needs no preparation and no
@@ -42,9 +43,9 @@
 /* The version of the library that this header belongs to. Whole numbers and
  * their text say the same. */
 #define FERVOLATRO_VERSION_MAJOR 0
-#define FERVOLATRO_VERSION_MINOR 4
+#define FERVOLATRO_VERSION_MINOR 5
 #define FERVOLATRO_VERSION_PATCH 0
-#define FERVOLATRO_VERSION "0.4.0"
+#define FERVOLATRO_VERSION "0.5.0"
 
 /* How many bytes each record of a book has, in the order of the book. */
 #define FERVOLATRO_BOOK_HEADER_SIZE 24
@@ -85,6 +86,13 @@
 #define FERVOLATRO_MOST_ENABLEMENT 1000000
 #define FERVOLATRO_MOST_PRODUCT 600000000000LL
 
+/* How many rows a reconciliation file that is written has at most, five regions
+ * of each contract, and the bytes of the longest: no line has more than 171. A
+ * buffer of that length is never refused as too short. A text that is read may
+ * have any number of rows. */
+#define FERVOLATRO_MOST_NMAS_ROWS 80
+#define FERVOLATRO_LARGEST_NMAS 13680
+
 /* The most that a cost, a payment or a line can be, either way, in ten-
  * thousandths of a dollar, and so a sum over dispatch rows. It needs 64
  * bits. */
@@ -118,11 +126,12 @@ enum {
     FERVOLATRO_REFUSED_NO_ACCOUNT = 11,
     /* A line would pass FERVOLATRO_LIMIT either way. */
     FERVOLATRO_REFUSED_LIMIT = 12,
-    /* The lent buffer is shorter than the statement. */
+    /* The lent buffer is shorter than the statement or the file. */
     FERVOLATRO_REFUSED_BUFFER = 13,
     /* The bytes are not a statement. */
     FERVOLATRO_REFUSED_NO_STATEMENT = 14,
-    /* The number of a pool or of a line is past the end. */
+    /* The number of a pool, of a line, of a payment type or of a row is past
+     * the end. */
     FERVOLATRO_REFUSED_PAST_END = 15,
     /* A dispatch row is cut short, out of range or not rising, has a product
      * above FERVOLATRO_MOST_PRODUCT or takes a sum past FERVOLATRO_LIMIT. */
@@ -131,7 +140,11 @@ enum {
     FERVOLATRO_REFUSED_NO_LOCKED = 17,
     /* The locked book fails one of checks 1 to 9, has another date or interval
      * than the book, or a later run. */
-    FERVOLATRO_REFUSED_LOCKED = 18
+    FERVOLATRO_REFUSED_LOCKED = 18,
+    /* A line of a reconciliation file is not of its form, out of the book's or
+     * statement's ranges, has a benefit factor of 0, or a RECOVERY_AMOUNT that
+     * is not the sum of the last two. */
+    FERVOLATRO_REFUSED_NMAS_LINE = 19
 };
 
 /* What a line of a statement is for. ACE is the energy consumed, ASOE the
@@ -163,8 +176,9 @@ enum {
     FERVOLATRO_SERVICE_REGULATION_LOWER = 10
 };
 
-/* The region of an energy row or of a dispatch row, and the place of a region's
- * entry and of its benefit factor. */
+/* The region of an energy row, of a dispatch row or of a row of a
+ * reconciliation file, and the place of a region's entry and of its benefit
+ * factor. */
 enum {
     FERVOLATRO_REGION_NSW1 = 0,
     FERVOLATRO_REGION_QLD1 = 1,
@@ -195,6 +209,14 @@ enum {
 enum {
     FERVOLATRO_CONTRACT_ORDINARY = 1,
     FERVOLATRO_CONTRACT_TEST = 2
+};
+
+/* What a restart contract's payment is for, as a reconciliation file has it.
+ * The book does not say: the caller chooses. */
+enum {
+    FERVOLATRO_PAYMENT_TYPE_AVAILABILITY = 0,
+    FERVOLATRO_PAYMENT_TYPE_ENABLEMENT = 1,
+    FERVOLATRO_PAYMENT_TYPE_COMPENSATION = 2
 };
 
 #ifdef __cplusplus
@@ -257,13 +279,13 @@ fervolatro_verdict fervolatro_check(const uint8_t *book, size_t book_len,
                                     const uint8_t *locked, size_t locked_len);
 
 /*
- * The answer of fervolatro_length, and of a call that writes a statement or the
- * lines of one.
+ * The answer of fervolatro_length, and of a call that writes a statement, the
+ * lines of one or a reconciliation file.
  *
  * refusal  0 if the call is not refused, else the number of the refusal, 1 to
- *          14, 17 or 18.
+ *          15, 17 or 18.
  * place    where in the book the fault lies, in bytes from its start; 0 if the
- *          call is not refused, and for refusals 11 to 14.
+ *          call is not refused, and for refusals 11 to 15.
  * length   how many bytes were written, or how many fervolatro_statement would
  *          write; 0 if the call is refused.
  */
@@ -642,6 +664,183 @@ fervolatro_cost fervolatro_payment(const uint8_t *rows, size_t rows_len,
  */
 fervolatro_cost fervolatro_base_cost(const uint8_t *rows, size_t rows_len,
                                      uint32_t id, uint64_t service);
+
+/*
+ * Writes the reconciliation file of one account: a line of text for each
+ * contract and each region whose benefit factor is above 0, in the order of the
+ * statement. An account of a book without contracts has the empty text, of
+ * length 0.
+ *
+ *   No  Given exactly when                              Place
+ *    0  none of the rows below applies                  0
+ *   15  type is not below 3                             0
+ *    1  to 12, 17 and 18, as fervolatro_length gives
+ *       them
+ *   13  buffer_len below the text's length              0
+ *
+ * The first row that applies is given, in this order: 15 before all else.
+ *
+ * A line has seventeen fields, with commas between them and a line feed behind
+ * the last; there is no line of titles:
+ *
+ *   Field                 What it is                              Decimals
+ *   SETTLEMENTDATE        the book's date, YYYYMMDD
+ *   VERSIONNO             the book's run
+ *   PERIODID              the book's interval
+ *   PARTICIPANTID         the account
+ *   SERVICE               RESTART
+ *   CONTRACTID            the contract's id
+ *   PAYMENTTYPE           AVAILABILITY, ENABLEMENT or
+ *                         COMPENSATION, as type says
+ *   REGIONID              NSW1, QLD1, SA1, TAS1 or VIC1
+ *   RBF                   the region's benefit factor             6
+ *   PAYMENT_AMOUNT        the whole payment, in dollars           4
+ *   RECOVERY_AMOUNT       the sum of the last two, in dollars     4
+ *   PARTICIPANT_ACE_MWH   the account's ACE in the region         3
+ *   REGION_ACE_MWH        all accounts' ACE in the region         3
+ *   PARTICIPANT_ASOE_MWH  the account's ASOE in the region        3
+ *   REGION_ASOE_MWH       all accounts' ASOE in the region        3
+ *   RECOVERYAMOUNT_ACE    the statement's line of part 9          4
+ *   RECOVERYAMOUNT_ASOE   the statement's line of part 10         4
+ *
+ * Energies are in MWh. Numbers are decimal, with a minus where they are below
+ * 0, as ACE is and what the account must pay. There is no plus, no blank and no
+ * carriage return, no zero at the front but one right before a point, and no
+ * minus before 0. Energies of a contract of kind 2 are the locked book's; date,
+ * run and interval are the book's own.
+ *
+ * Where the answer is 0, the first length bytes of the buffer are the text and
+ * every later byte is what it was: no byte of 0 ends it. A refusal leaves every
+ * byte of the buffer what it was. A buffer of FERVOLATRO_LARGEST_NMAS bytes is
+ * never refused by 13.
+ *
+ * book        the first of book_len readable bytes.
+ * book_len    how many bytes are lent to be read.
+ * locked      the first of locked_len readable bytes.
+ * locked_len  how many bytes are lent to be read; 0 where there is no locked
+ *             book.
+ * account     any number; 0 is no account, and refused by 11.
+ * type        any number; those of FERVOLATRO_PAYMENT_TYPE_.. are not refused.
+ * buffer      the first of buffer_len writable bytes, none of them in the book
+ *             or in the locked book.
+ * buffer_len  how many bytes are lent to be written.
+ */
+fervolatro_written fervolatro_nmas(const uint8_t *book, size_t book_len,
+                                   const uint8_t *locked, size_t locked_len,
+                                   uint32_t account, uint64_t type,
+                                   uint8_t *buffer, size_t buffer_len);
+
+/*
+ * The answer of fervolatro_nmas_rows.
+ *
+ * refusal  0 if the text is a reconciliation file, else 19.
+ * place    the number of the first line at fault, from 0; 0 if there is none.
+ * rows     how many rows the file has, one of each line; 0 if it is refused.
+ */
+typedef struct {
+    uint64_t refusal;
+    uint64_t place;
+    uint64_t rows;
+} fervolatro_nmas_size;
+
+/*
+ * Reads how many rows a reconciliation file has: any bytes of any length get
+ * exactly one answer.
+ *
+ *   No  Given exactly when                              Place
+ *    0  the bytes are a reconciliation file             0
+ *   19  a line is not of the form, out of the book's    the first such line's
+ *       or statement's ranges, has a benefit factor     number, from 0
+ *       of 0, or a RECOVERY_AMOUNT that is not the
+ *       sum of the last two
+ *
+ * The form is that of fervolatro_nmas: a row has one spelling. A line ends in
+ * its line feed, the last one too: bytes that stop without one are a line at
+ * fault. No bytes at all are a file of no rows. The ranges are these:
+ *
+ *   - a real date in 2025 to 2099, run 1 to 99, interval 1 to 288, account and
+ *     contract from 1 to 4,294,967,295;
+ *   - a factor of 1 to 1,000,000 millionths, a payment of 0 to 50,000,000,000
+ *     ten-thousandths of a dollar;
+ *   - ACE of -20,000,000 to 0 kWh, ASOE of 0 to 20,000,000, both the account's
+ *     and all accounts';
+ *   - each of the last two -50,000,000,000 to 0 ten-thousandths of a dollar.
+ *
+ * Each line is judged by itself: neither the order of the lines is judged, nor
+ * whether one comes twice, nor how the account's energy stands to that of all.
+ *
+ * text      the first of text_len readable bytes.
+ * text_len  how many bytes are lent.
+ */
+fervolatro_nmas_size fervolatro_nmas_rows(const uint8_t *text,
+                                          size_t text_len);
+
+/*
+ * The answer of fervolatro_nmas_row.
+ *
+ * refusal      0 if the row is there, else 19 or 15; then every field below is
+ *              0 but the place.
+ * place        the number of the first line at fault, from 0; 0 if the row is
+ *              there, and for refusal 15.
+ * date         as YYYYMMDD.
+ * run          1 to 99.
+ * interval     of the day, 1 to 288.
+ * account      whose row it is.
+ * contract     the contract's id.
+ * type         0 to 2, what the payment is for.
+ * region       0 to 4.
+ * factor       the region's benefit factor, in millionths.
+ * payment      the whole payment, in ten-thousandths of a dollar.
+ * recovery     by_ace + by_asoe; what the account must pay is negative.
+ * own_ace      the account's ACE in the region, in kWh, 0 or negative.
+ * region_ace   all accounts' ACE in the region.
+ * own_asoe     the account's ASOE in the region, in kWh, 0 or positive.
+ * region_asoe  all accounts' ASOE in the region.
+ * by_ace       what the account must pay by its ACE, in ten-thousandths of a
+ *              dollar.
+ * by_asoe      what it must pay by its ASOE.
+ */
+typedef struct {
+    uint64_t refusal;
+    uint64_t place;
+    uint64_t date;
+    uint64_t run;
+    uint64_t interval;
+    uint64_t account;
+    uint64_t contract;
+    uint64_t type;
+    uint64_t region;
+    uint64_t factor;
+    uint64_t payment;
+    int64_t recovery;
+    int64_t own_ace;
+    int64_t region_ace;
+    int64_t own_asoe;
+    int64_t region_asoe;
+    int64_t by_ace;
+    int64_t by_asoe;
+} fervolatro_nmas_entry;
+
+/*
+ * Reads one row of a reconciliation file. The whole text is judged for it,
+ * whatever row is asked for.
+ *
+ *   No  Given exactly when                              Place
+ *    0  none of the rows below applies                  0
+ *   19  a line is not of the form, out of the book's    the first such line's
+ *       or statement's ranges, has a benefit factor     number, from 0
+ *       of 0, or a RECOVERY_AMOUNT that is not the
+ *       sum of the last two
+ *   15  index is not below the number of rows           0
+ *
+ * 19 is looked for first.
+ *
+ * text      the first of text_len readable bytes.
+ * text_len  how many bytes are lent.
+ * index     the number of the row, from 0.
+ */
+fervolatro_nmas_entry fervolatro_nmas_row(const uint8_t *text, size_t text_len,
+                                          uint64_t index);
 
 #ifdef __cplusplus
 }

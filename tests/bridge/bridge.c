@@ -14,7 +14,12 @@
  *   'a', the statement, the buffer: of fervolatro_lines; the answer is as for 's';
  *   'r', the statement, the buffer: the answer is as for 's';
  *   'p', the rows, a u64 service: the answer is fervolatro_cost, field by field;
- *   'k', the rows, a u32 id, a u64 service: of fervolatro_base_cost; the answer is as for 'p'.
+ *   'k', the rows, a u32 id, a u64 service: of fervolatro_base_cost; the answer is as for 'p';
+ *   'f', the book, the locked book, a u32 account, a u64 type, the buffer: of fervolatro_nmas; the
+ *        answer is as for 's';
+ *   't', the text: of fervolatro_nmas_rows; the answer is fervolatro_nmas_size, field by field;
+ *   'e', the text, a u64 index: of fervolatro_nmas_row; the answer is fervolatro_nmas_entry, field
+ *        by field.
  * All numbers are little-endian, as both sides are. The end of the input ends the program.
  *
  * A lent buffer stands between guard bytes. If a call changes one of them, the program says so and
@@ -227,6 +232,43 @@ static void make_base_cost(void)
     give(&cost, sizeof cost);
 }
 
+static void write_nmas(void)
+{
+    static slice buffer;
+    uint32_t account;
+    uint64_t type;
+
+    take_books();
+    take(&account, sizeof account);
+    take(&type, sizeof type);
+    take_buffer(&buffer);
+    give_written(fervolatro_nmas(book.bytes, book.len, locked.bytes, locked.len, account, type,
+                                 buffer.bytes, buffer.len),
+                 &buffer);
+}
+
+static void count_nmas_rows(void)
+{
+    static slice text;
+    fervolatro_nmas_size size;
+
+    take_slice(&text);
+    size = fervolatro_nmas_rows(text.bytes, text.len);
+    give(&size, sizeof size);
+}
+
+static void read_nmas_row(void)
+{
+    static slice text;
+    uint64_t index;
+    fervolatro_nmas_entry entry;
+
+    take_slice(&text);
+    take(&index, sizeof index);
+    entry = fervolatro_nmas_row(text.bytes, text.len, index);
+    give(&entry, sizeof entry);
+}
+
 /* The calls by their letters. */
 static const struct { int letter; void (*make)(void); } CALLS[] = {
     {'c', check},
@@ -239,6 +281,9 @@ static const struct { int letter; void (*make)(void); } CALLS[] = {
     {'r', rewrite},
     {'p', make_payment},
     {'k', make_base_cost},
+    {'f', write_nmas},
+    {'t', count_nmas_rows},
+    {'e', read_nmas_row},
 };
 
 static void answer(int letter)

@@ -1,6 +1,7 @@
 /*
- * Books made in C, for the tests of the library's edge and of its stack: records, put
- * into bytes where the rules have their fields, and the largest books there are.
+ * Books made in C, for the tests of the header's constants, of the library's edge and
+ * of its stack: records, put into bytes where the rules have their fields, the largest
+ * books there are, and the longest reconciliation files.
  */
 #ifndef FERVOLATRO_TESTS_BOOKS_H
 #define FERVOLATRO_TESTS_BOOKS_H
@@ -200,6 +201,79 @@ static inline void make_largest(uint8_t book[LARGEST_LEN], uint64_t step,
     }
     at = put_energies(put_units(put_factored(at), step));
     put_contracts(at, kind);
+}
+
+/* ---- The longest reconciliation files. */
+
+/*
+ * A book whose file for ACCOUNT is as long as one that is written can be. Every field
+ * but the three amounts is as long as its range lets it be, which makes 131 bytes of a
+ * line, and 130 in SA1: a run of two digits, an interval of three, account and contract
+ * of ten, a payment of $5,000,000, and all energy of each region ACCOUNT's, 20,000 MWh
+ * each way.
+ *
+ * The amounts share the payment. From $1,000,000 on one has 13 bytes with its minus,
+ * from $100,000 on 12. Two regions of 0.4 have $2,000,000 and halves of $1,000,000:
+ * three amounts of 13 bytes each. The other three have $500,000, $250,000 and $250,000,
+ * and halves of $125,000 at least: 12 bytes each. That makes 2 x 39 + 3 x 36 = 186, and
+ * no five regions make more: one has 39 from 0.4 on, 37 from 0.2 on and else 36 at most,
+ * and into 1 go two of 0.4 and none of 0.2, one of 0.4 and two of 0.2, or five of 0.2,
+ * with something left for the others: 186, 185, 185.
+ *
+ * In all 16 x (5 x 131 - 1 + 186).
+ */
+enum {
+    LONGEST_FILE_LEN = 13440,
+    LONGEST_FILE_BOOK_LEN =
+        ENTRIES_END + 5 * ENERGY_LEN + MOST_CONTRACTS * CONTRACT_LEN
+};
+
+_Static_assert(LONGEST_FILE_LEN == 16 * (5 * 131 - 1 + 2 * 39 + 3 * 36),
+               "16 contracts of 840 bytes");
+
+static inline void make_longest_file(uint8_t book[LONGEST_FILE_BOOK_LEN])
+{
+    static const uint64_t factors[] = {400000, 400000, 100000, 50000, 50000};
+    const int64_t most = 20000000;
+    uint8_t *at = book + ENTRIES_END;
+    uint64_t i;
+    size_t region;
+
+    memset(book, 0, LONGEST_FILE_BOOK_LEN);
+    put_front(book, "RCB");
+    put_counts(book, 0, 0, 5, MOST_CONTRACTS);
+    for (region = 0; region < 5; region++, at += ENERGY_LEN) {
+        put_entry(book, region, -most, most, 1);
+        put_energy(at, ACCOUNT, region, -most, most);
+    }
+    for (i = 0; i < MOST_CONTRACTS; i++, at += CONTRACT_LEN) {
+        put_contract(at, UINT32_MAX - MOST_CONTRACTS + i, 1,
+                     UINT64_C(50000000000), 0);
+        for (region = 0; region < 5; region++) {
+            put(at, 16 + 4 * region, 4, factors[region]);
+        }
+    }
+}
+
+/* The longest line that is read has 171 bytes: both of its last two amounts are at
+ * their limit, and RECOVERY_AMOUNT, their sum, needs a digit more. */
+#define LONGEST_LINE                                                        \
+    "20960229,98,287,4275878552,RESTART,4294967295,AVAILABILITY,NSW1,"      \
+    "1.000000,5000000.0000,-10000000.0000,-20000.000,-20000.000,20000.000," \
+    "20000.000,-5000000.0000,-5000000.0000\n"
+
+enum { LONGEST_LINE_LEN = sizeof LONGEST_LINE - 1 };
+
+_Static_assert(LONGEST_LINE_LEN == 171, "131 bytes, 14 and twice 13");
+
+/* So many of them. */
+static inline void put_longest_lines(uint8_t *text, size_t lines)
+{
+    size_t i;
+
+    for (i = 0; i < lines; i++) {
+        memcpy(text + i * LONGEST_LINE_LEN, LONGEST_LINE, LONGEST_LINE_LEN);
+    }
 }
 
 #endif

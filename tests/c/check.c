@@ -1,7 +1,8 @@
 /*
- * Calls the library from C, through its header, on a few books, statements and
- * dispatch rows whose answers are known. The path of the worked book is the one
- * argument. Exits non-zero with a message if an answer is not the expected one.
+ * Calls the library from C, through its header, on a few books, statements,
+ * dispatch rows and reconciliation files whose answers are known. The path of the
+ * worked book is the one argument. Exits non-zero with a message if an answer is
+ * not the expected one.
  */
 #include <inttypes.h>
 #include <stdio.h>
@@ -139,7 +140,9 @@ enum {
     HEADING_FIELDS = 7,
     ENTRY_FIELDS = 7,
     POOL_FIELDS = 5,
-    COST_FIELDS = 3
+    COST_FIELDS = 3,
+    NMAS_SIZE_FIELDS = 3,
+    NMAS_ENTRY_FIELDS = 18
 };
 
 _Static_assert(sizeof(fervolatro_verdict) == VERDICT_FIELDS * sizeof(uint64_t),
@@ -154,6 +157,12 @@ _Static_assert(sizeof(fervolatro_pool) == POOL_FIELDS * sizeof(uint64_t),
                "a pool has five fields");
 _Static_assert(sizeof(fervolatro_cost) == COST_FIELDS * sizeof(uint64_t),
                "a cost has three fields");
+_Static_assert(sizeof(fervolatro_nmas_size)
+                   == NMAS_SIZE_FIELDS * sizeof(uint64_t),
+               "the size of a file has three fields");
+_Static_assert(sizeof(fervolatro_nmas_entry)
+                   == NMAS_ENTRY_FIELDS * sizeof(uint64_t),
+               "a row of a file has eighteen fields");
 
 static uint64_t field(const void *answer, size_t at)
 {
@@ -369,50 +378,52 @@ static void balances(const uint8_t *book)
     expect_pool("pool 3, one byte short", book, WORKED_LEN - 1, 3, no_book);
 }
 
-/* The worked book with a test payment of 1,000,000 behind it, all of it for NSW1:
- * 1,000,000 is 0x0F4240. The locked book is the worked one, in which account 7 has
- * ACE 15,000 of 1,015,000 and ASOE 5,000 of 585,000. */
-enum { TEST_LEN = WORKED_LEN + 36 };
+/* The worked book with a contract of 1,000,000 behind it, all of it for NSW1: 1,000,000
+ * is 0x0F4240. In the worked book account 7 has ACE 15,000 of 1,015,000 and ASOE 5,000
+ * of 585,000. */
+enum { WITH_CONTRACT_LEN = WORKED_LEN + 36 };
 
-static void put_test_payment(const uint8_t *book, uint8_t with_test[TEST_LEN])
+static void put_contract(const uint8_t *book, uint8_t kind,
+                         uint8_t with_contract[WITH_CONTRACT_LEN])
 {
     static const uint8_t million[] = {0x40, 0x42, 0x0F};
-    uint8_t *contract = with_test + WORKED_LEN;
+    uint8_t *contract = with_contract + WORKED_LEN;
 
-    memset(with_test, 0, TEST_LEN);
-    memcpy(with_test, book, WORKED_LEN);
-    with_test[20] = 1;                          /* one contract */
+    memset(with_contract, 0, WITH_CONTRACT_LEN);
+    memcpy(with_contract, book, WORKED_LEN);
+    with_contract[20] = 1;                      /* one contract */
     contract[0] = 1;                            /* id */
-    contract[4] = FERVOLATRO_CONTRACT_TEST;     /* kind */
+    contract[4] = kind;
     memcpy(contract + 8, million, sizeof million);  /* payment */
     memcpy(contract + 16, million, sizeof million); /* NSW1's factor */
 }
 
-static void expect_locked(const char *name, const uint8_t with_test[TEST_LEN],
+static void expect_locked(const char *name,
+                          const uint8_t with_test[WITH_CONTRACT_LEN],
                           const uint8_t *locked, size_t locked_len,
                           fervolatro_verdict expected)
 {
     fervolatro_verdict got =
-        fervolatro_check(with_test, TEST_LEN, locked, locked_len);
+        fervolatro_check(with_test, WITH_CONTRACT_LEN, locked, locked_len);
 
     expect_fields(name, VERDICT_FIELDS, &got, &expected);
 }
 
-/* Halves of 500,000. Account 7's are 500,000 x 15 / 1,015 = 7,389.16 and 500,000 x
- * 5 / 585 = 4,273.50; account 9's 492,610.84 and 495,726.50. All four lines make
- * 1,000,000. */
+/* The locked book is the worked one. Halves of 500,000. Account 7's are 500,000 x 15 /
+ * 1,015 = 7,389.16 and 500,000 x 5 / 585 = 4,273.50; account 9's 492,610.84 and
+ * 495,726.50. All four lines make 1,000,000. */
 static void locked_books(const uint8_t *book)
 {
     static const fervolatro_written whole = {0, 0, STATEMENT_LEN + 2 * 24};
     static const fervolatro_entry by_ace = {0, 0, 1, 9, 1, 0, -7389};
     static const fervolatro_entry by_asoe = {0, 0, 1, 10, 1, 0, -4274};
     static const fervolatro_pool pool = {0, 0, 1000000, 4, -1000000};
-    uint8_t with_test[TEST_LEN], later[WORKED_LEN];
+    uint8_t with_test[WITH_CONTRACT_LEN], later[WORKED_LEN];
     uint8_t statement[STATEMENT_LEN + 2 * 24] = {0};
     fervolatro_written got;
     fervolatro_pool balance;
 
-    put_test_payment(book, with_test);
+    put_contract(book, FERVOLATRO_CONTRACT_TEST, with_test);
     memcpy(later, book, WORKED_LEN);
     later[12] = 2; /* the run */
     expect_locked("no locked book", with_test, NULL, 0,
@@ -423,17 +434,17 @@ static void locked_books(const uint8_t *book)
                   (fervolatro_verdict){18, WORKED_LEN});
     expect_locked("a locked book", with_test, book, WORKED_LEN,
                   (fervolatro_verdict){0, 0});
-    expect_locked("the book itself", with_test, with_test, TEST_LEN,
+    expect_locked("the book itself", with_test, with_test, WITH_CONTRACT_LEN,
                   (fervolatro_verdict){0, 0});
 
-    got = fervolatro_length(with_test, TEST_LEN, book, WORKED_LEN, 7);
+    got = fervolatro_length(with_test, WITH_CONTRACT_LEN, book, WORKED_LEN, 7);
     expect_fields("length with a locked book", WRITTEN_FIELDS, &got, &whole);
-    got = fervolatro_statement(with_test, TEST_LEN, book, WORKED_LEN, 7,
+    got = fervolatro_statement(with_test, WITH_CONTRACT_LEN, book, WORKED_LEN, 7,
                                statement, sizeof statement);
     expect_fields("statement with a locked book", WRITTEN_FIELDS, &got, &whole);
     expect_line("contract by ACE", statement, sizeof statement, 12, by_ace);
     expect_line("contract by ASOE", statement, sizeof statement, 13, by_asoe);
-    balance = fervolatro_balance(with_test, TEST_LEN, book, WORKED_LEN, 3);
+    balance = fervolatro_balance(with_test, WITH_CONTRACT_LEN, book, WORKED_LEN, 3);
     expect_fields("pool of a test payment", POOL_FIELDS, &balance, &pool);
 }
 
@@ -500,6 +511,91 @@ static void refused_rows(void)
                      third);
 }
 
+/* Account 7's reconciliation file of the worked book with an ordinary contract: the
+ * amounts are those of the test payment. */
+static const char FILE_OF_7[] =
+    "20250608,1,1,7,RESTART,1,AVAILABILITY,NSW1,1.000000,100.0000,"
+    "-1.1663,-15.000,-1015.000,5.000,585.000,-0.7389,-0.4274\n";
+
+enum { FILE_LEN = sizeof FILE_OF_7 - 1, FILE_ROOM = FILE_LEN + 1 };
+
+/* Asks for a file in the first room bytes of a buffer. */
+static void expect_file(const char *name, const uint8_t *with_contract,
+                        uint64_t type, size_t room, fervolatro_written expected)
+{
+    uint8_t buffer[FILE_ROOM], left[FILE_ROOM];
+    fervolatro_written got;
+
+    memset(buffer, UNTOUCHED, FILE_ROOM);
+    memset(left, UNTOUCHED, FILE_ROOM);
+    memcpy(left, FILE_OF_7, (size_t)expected.length);
+    got = fervolatro_nmas(with_contract, WITH_CONTRACT_LEN, NULL, 0, 7, type,
+                          buffer, room);
+    expect_fields(name, WRITTEN_FIELDS, &got, &expected);
+    if (memcmp(buffer, left, FILE_ROOM) != 0) {
+        fprintf(stderr, "%s: other bytes in the buffer\n", name);
+        failures++;
+    }
+}
+
+static void files(const uint8_t *book)
+{
+    static const fervolatro_written whole = {0, 0, FILE_LEN};
+    static const fervolatro_written empty = {0, 0, 0};
+    uint8_t with_contract[WITH_CONTRACT_LEN];
+    fervolatro_written got;
+
+    put_contract(book, FERVOLATRO_CONTRACT_ORDINARY, with_contract);
+    expect_file("file", with_contract, 0, FILE_LEN, whole);
+    expect_file("file, room to spare", with_contract, 0, FILE_ROOM, whole);
+    expect_file("file, room one short", with_contract, 0, FILE_LEN - 1,
+                (fervolatro_written){13, 0, 0});
+    expect_file("file of type 3", with_contract, 3, FILE_ROOM,
+                (fervolatro_written){15, 0, 0});
+    got = fervolatro_nmas(book, WORKED_LEN, NULL, 0, 7, 0, NULL, 0);
+    expect_fields("file without contracts", WRITTEN_FIELDS, &got, &empty);
+}
+
+static void expect_rows(const char *name, const uint8_t *text, size_t len,
+                        fervolatro_nmas_size expected)
+{
+    fervolatro_nmas_size got = fervolatro_nmas_rows(text, len);
+
+    expect_fields(name, NMAS_SIZE_FIELDS, &got, &expected);
+}
+
+static void expect_row(const char *name, const uint8_t *text, size_t len,
+                       uint64_t index, fervolatro_nmas_entry expected)
+{
+    fervolatro_nmas_entry got = fervolatro_nmas_row(text, len, index);
+
+    expect_fields(name, NMAS_ENTRY_FIELDS, &got, &expected);
+}
+
+/* A file of two rows, and what of it is refused. */
+static void files_read(void)
+{
+    static const fervolatro_nmas_entry row = {
+        0, 0, 20250608, 1, 1, 7, 1, 0, 0, 1000000, 1000000, -11663,
+        -15000, -1015000, 5000, 585000, -7389, -4274};
+    enum { LEN = 2 * FILE_LEN };
+    uint8_t text[LEN];
+
+    memcpy(text, FILE_OF_7, FILE_LEN);
+    memcpy(text + FILE_LEN, FILE_OF_7, FILE_LEN);
+    expect_rows("two rows", text, LEN, (fervolatro_nmas_size){0, 0, 2});
+    expect_rows("no rows", text, 0, (fervolatro_nmas_size){0, 0, 0});
+    expect_rows("one byte short", text, LEN - 1,
+                (fervolatro_nmas_size){19, 1, 0});
+    expect_row("row 1", text, LEN, 1, row);
+    expect_row("row 2", text, LEN, 2, (fervolatro_nmas_entry){.refusal = 15});
+    /* -0.4275, and the sum is another. */
+    text[LEN - 2] = '5';
+    expect_rows("another sum", text, LEN, (fervolatro_nmas_size){19, 1, 0});
+    expect_row("row 0, another sum in row 1", text, LEN, 0,
+               (fervolatro_nmas_entry){.refusal = 19, .place = 1});
+}
+
 int main(int argc, char **argv)
 {
     static const fervolatro_pool no_usage = {5, CONSTRAINT_AT, 0, 0, 0};
@@ -524,6 +620,8 @@ int main(int argc, char **argv)
     locked_books(book);
     costs();
     refused_rows();
+    files(book);
+    files_read();
 
     /* As among the damages. */
     book[CONSTRAINT_AT + 27] = 1;

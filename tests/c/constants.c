@@ -1,9 +1,9 @@
 /*
  * Sees that the header's constants are what the library answers and reads: each
  * refusal by its name, the sizes by the records, the limits of a dispatch row by
- * the last number that is taken and the first that is not, and of each group
- * exactly the numbers that the library takes. The path of the worked book is the
- * one argument.
+ * the last number that is taken and the first that is not, those of a
+ * reconciliation file by the longest there are, and of each group exactly the
+ * numbers that the library takes. The path of the worked book is the one argument.
  *
  * Exits non-zero with a message if an answer is not the expected one. That the
  * constants are also the numbers of the rules, a guard sees
@@ -15,6 +15,8 @@
 #include <string.h>
 
 #include "fervolatro.h"
+
+#include "books.h"
 
 _Static_assert(FERVOLATRO_BOOK_HEADER_SIZE
                        + FERVOLATRO_REGION_ENTRIES * FERVOLATRO_REGION_ENTRY_SIZE
@@ -36,6 +38,12 @@ _Static_assert(FERVOLATRO_LIMIT / 1000000 == 50000 && sizeof FERVOLATRO_LIMIT ==
 _Static_assert(FERVOLATRO_MOST_PRODUCT == 12 * FERVOLATRO_LIMIT
                    && sizeof FERVOLATRO_MOST_PRODUCT == 8,
                "a row of the most product makes the limit");
+_Static_assert(FERVOLATRO_MOST_NMAS_ROWS
+                   == FERVOLATRO_MOST_CONTRACTS * FERVOLATRO_REGION_ENTRIES,
+               "a file that is written has a row for each contract and region");
+_Static_assert(FERVOLATRO_LARGEST_NMAS
+                   == FERVOLATRO_MOST_NMAS_ROWS * LONGEST_LINE_LEN,
+               "80 x 171");
 
 /* ---- The groups. A compiler takes no two equal numbers in one switch. */
 
@@ -116,6 +124,18 @@ static int is_contract_kind(unsigned number)
     }
 }
 
+static int is_payment_type(unsigned number)
+{
+    switch (number) {
+    case FERVOLATRO_PAYMENT_TYPE_AVAILABILITY:
+    case FERVOLATRO_PAYMENT_TYPE_ENABLEMENT:
+    case FERVOLATRO_PAYMENT_TYPE_COMPENSATION:
+        return 1;
+    default:
+        return 0;
+    }
+}
+
 /* The modes that go with a service: contingency with 1 to 8, the others with
  * regulation. */
 static int is_mode_of(unsigned service, unsigned number)
@@ -156,6 +176,7 @@ static const char *name_of(uint64_t refusal)
     case FERVOLATRO_REFUSED_DISPATCH_ROW: return "dispatch row";
     case FERVOLATRO_REFUSED_NO_LOCKED: return "no locked book";
     case FERVOLATRO_REFUSED_LOCKED: return "locked book";
+    case FERVOLATRO_REFUSED_NMAS_LINE: return "line of a file";
     default: return "a number without a name";
     }
 }
@@ -270,34 +291,25 @@ static void refusals_of_a_book(void)
            FERVOLATRO_REFUSED_PAST_END);
 }
 
-/* A contract of the kind, whose benefit is all the first region's: 1,000,000 is
- * 0x0F4240. */
-static void put_contract(uint8_t contract[FERVOLATRO_CONTRACT_SIZE],
-                         unsigned kind)
-{
-    memset(contract, 0, FERVOLATRO_CONTRACT_SIZE);
-    contract[0] = 1;
-    contract[4] = (uint8_t)kind;
-    memcpy(contract + 16, (uint8_t[]){0x40, 0x42, 0x0F}, 3);
-}
-
 /* The book and a contract behind it. The ordinary one wants no locked book, and reads
  * none; the test payment does. */
 static void refusals_of_a_locked_book(void)
 {
     enum { LEN = BOOK_LEN + FERVOLATRO_CONTRACT_SIZE };
-    uint8_t with_contract[LEN];
+    uint8_t with_contract[LEN] = {0};
 
     memcpy(with_contract, book, BOOK_LEN);
     with_contract[20] = 1;
-    put_contract(with_contract + BOOK_LEN, FERVOLATRO_CONTRACT_ORDINARY);
+    put_contract(with_contract + BOOK_LEN, 1, FERVOLATRO_CONTRACT_ORDINARY, 0,
+                 FERVOLATRO_REGION_NSW1);
     expect("an ordinary contract",
            fervolatro_check(with_contract, LEN, NULL, 0).refusal,
            FERVOLATRO_NOT_REFUSED);
     expect("an ordinary contract and half a locked book",
            fervolatro_check(with_contract, LEN, book, BOOK_LEN / 2).refusal,
            FERVOLATRO_NOT_REFUSED);
-    put_contract(with_contract + BOOK_LEN, FERVOLATRO_CONTRACT_TEST);
+    put_contract(with_contract + BOOK_LEN, 1, FERVOLATRO_CONTRACT_TEST, 0,
+                 FERVOLATRO_REGION_NSW1);
     expect("a test payment", fervolatro_check(with_contract, LEN, NULL, 0).refusal,
            FERVOLATRO_REFUSED_NO_LOCKED);
     expect("a test payment and half a locked book",
@@ -358,15 +370,6 @@ enum {
 _Static_assert(FERVOLATRO_MOST_PRODUCT % FERVOLATRO_MOST_PRICE == 0,
                "and the product is then the most");
 
-static void put_u32(uint8_t *at, uint32_t number)
-{
-    size_t i;
-
-    for (i = 0; i < 4; i++) {
-        at[i] = (uint8_t)(number >> (8 * i));
-    }
-}
-
 /* A payment row of raise regulation. */
 static void put_row(uint8_t *row, unsigned region, uint32_t price,
                     uint32_t enablement)
@@ -374,8 +377,8 @@ static void put_row(uint8_t *row, unsigned region, uint32_t price,
     memset(row, 0, ROW_LEN);
     row[4] = RAISE;
     row[5] = (uint8_t)region;
-    put_u32(row + 8, price);
-    put_u32(row + 12, enablement);
+    put(row, 8, 4, price);
+    put(row, 12, 4, enablement);
 }
 
 /* The answer to one row. */
@@ -457,16 +460,68 @@ static void sum_limit(void)
            FERVOLATRO_REFUSED_DISPATCH_ROW);
 }
 
+/* ---- Reconciliation files, by their limits. */
+
+/* The longest file that is written. It has the most rows, and is 240 bytes shorter than
+ * the constant: that has 171 bytes of each, as many as a line that is read can have. */
+static void longest_file_written(void)
+{
+    static uint8_t longest[LONGEST_FILE_BOOK_LEN], text[FERVOLATRO_LARGEST_NMAS];
+    fervolatro_written written;
+
+    make_longest_file(longest);
+    written = fervolatro_nmas(longest, sizeof longest, NULL, 0, ACCOUNT,
+                              FERVOLATRO_PAYMENT_TYPE_AVAILABILITY, text,
+                              FERVOLATRO_LARGEST_NMAS);
+    expect("the longest file", written.refusal, FERVOLATRO_NOT_REFUSED);
+    expect_number("its length", written.length, LONGEST_FILE_LEN);
+    expect_number("its rows",
+                  fervolatro_nmas_rows(text, LONGEST_FILE_LEN).rows,
+                  FERVOLATRO_MOST_NMAS_ROWS);
+    written = fervolatro_nmas(longest, sizeof longest, NULL, 0, ACCOUNT,
+                              FERVOLATRO_PAYMENT_TYPE_AVAILABILITY, text,
+                              LONGEST_FILE_LEN - 1);
+    expect("the longest file into less", written.refusal,
+           FERVOLATRO_REFUSED_BUFFER);
+}
+
+/* As many of the longest lines as the constant has bytes for, and one more, which is
+ * read as well; then the last one cut short. */
+static void longest_files_read(void)
+{
+    enum { LINES_READ = FERVOLATRO_MOST_NMAS_ROWS + 1 };
+    static uint8_t text[LINES_READ * LONGEST_LINE_LEN];
+    fervolatro_nmas_size size;
+
+    put_longest_lines(text, LINES_READ);
+    size = fervolatro_nmas_rows(text, FERVOLATRO_LARGEST_NMAS);
+    expect("the longest lines", size.refusal, FERVOLATRO_NOT_REFUSED);
+    expect_number("their number", size.rows, FERVOLATRO_MOST_NMAS_ROWS);
+    size = fervolatro_nmas_rows(text, sizeof text);
+    expect("a line more", size.refusal, FERVOLATRO_NOT_REFUSED);
+    expect_number("their number", size.rows, LINES_READ);
+    size = fervolatro_nmas_rows(text, sizeof text - 1);
+    expect("a byte less", size.refusal, FERVOLATRO_REFUSED_NMAS_LINE);
+    expect_number("its line", size.place, FERVOLATRO_MOST_NMAS_ROWS);
+    expect("row 81",
+           fervolatro_nmas_row(text, sizeof text, LINES_READ).refusal,
+           FERVOLATRO_REFUSED_PAST_END);
+    expect("row 81, a byte less",
+           fervolatro_nmas_row(text, sizeof text - 1, LINES_READ).refusal,
+           FERVOLATRO_REFUSED_NMAS_LINE);
+}
+
 /* ---- Exactly the numbers of a group are taken. Another is refused as a field
- * outside its rules, as no statement or as a dispatch row. One that is taken may
- * still make another check fail, which comes after. */
+ * outside its rules, as no statement, as a dispatch row or as past the end. One that
+ * is taken may still make another check fail, which comes after. */
 
 static void expect_taken(const char *what, unsigned number, uint64_t refusal,
                          int is_known)
 {
     int is_taken = refusal != FERVOLATRO_REFUSED_FIELD
                    && refusal != FERVOLATRO_REFUSED_NO_STATEMENT
-                   && refusal != FERVOLATRO_REFUSED_DISPATCH_ROW;
+                   && refusal != FERVOLATRO_REFUSED_DISPATCH_ROW
+                   && refusal != FERVOLATRO_REFUSED_PAST_END;
 
     if (is_taken != is_known) {
         fprintf(stderr, "%s %u: %s, though the header %s it\n", what, number,
@@ -513,7 +568,8 @@ static void contract_numbers(void)
     memcpy(other, book, 14);
     other[20] = 1;
     for (number = 0; number < 256; number++) {
-        put_contract(other + CONSTRAINT_AT, number);
+        put_contract(other + CONSTRAINT_AT, 1, number, 0,
+                     FERVOLATRO_REGION_NSW1);
         expect_taken("contract kind", number,
                      fervolatro_check(other, LEN, other, LEN).refusal,
                      is_contract_kind(number));
@@ -572,6 +628,19 @@ static void row_numbers(void)
     }
 }
 
+/* The worked book has no contract, and so an empty file of each type. */
+static void payment_types(void)
+{
+    unsigned number;
+
+    for (number = 0; number < 256; number++) {
+        expect_taken("payment type", number,
+                     fervolatro_nmas(book, BOOK_LEN, NULL, 0, 7, number, NULL, 0)
+                         .refusal,
+                     is_payment_type(number));
+    }
+}
+
 int main(int argc, char **argv)
 {
     if (argc != 2) {
@@ -585,6 +654,9 @@ int main(int argc, char **argv)
     row_size();
     row_limits();
     sum_limit();
+    longest_file_written();
+    longest_files_read();
+    payment_types();
     row_numbers();
     line_numbers();
     energy_numbers();

@@ -4,8 +4,8 @@
  * code speaks of. The fields of an answer differ from each other, and numbers of
  * 2^32 and above stand wherever the type and the rules have room for them. And
  * sees that a slice of length 0 may come with any pointer, that the calls on a book
- * touch no byte behind what they are lent, and none of a locked book that is not
- * read.
+ * and on a reconciliation file touch no byte behind what they are lent, and none of a
+ * locked book that is not read.
  *
  * The one argument is the machine's name (`uname -m`). Lengths of 2^32 and above
  * want a mapping of that size; a machine other than x86_64, where this runs in an
@@ -41,7 +41,9 @@ enum {
     ENTRY_FIELDS = 7,
     LINE_FIELDS = 5,
     COST_FIELDS = 3,
-    MOST_FIELDS = 7
+    NMAS_SIZE_FIELDS = 3,
+    NMAS_ENTRY_FIELDS = 18,
+    MOST_FIELDS = NMAS_ENTRY_FIELDS
 };
 
 #define HAS_FIELDS(answer, fields)                            \
@@ -55,6 +57,8 @@ HAS_FIELDS(fervolatro_heading, HEADING_FIELDS);
 HAS_FIELDS(fervolatro_entry, ENTRY_FIELDS);
 HAS_FIELDS(fervolatro_fields, LINE_FIELDS);
 HAS_FIELDS(fervolatro_cost, COST_FIELDS);
+HAS_FIELDS(fervolatro_nmas_size, NMAS_SIZE_FIELDS);
+HAS_FIELDS(fervolatro_nmas_entry, NMAS_ENTRY_FIELDS);
 
 static uint64_t field(const void *answer, size_t at)
 {
@@ -127,6 +131,18 @@ static void expect_cost(const char *name, fervolatro_cost got,
                         fervolatro_cost expected)
 {
     expect_fields(name, COST_FIELDS, &got, &expected);
+}
+
+static void expect_nmas_size(const char *name, fervolatro_nmas_size got,
+                             fervolatro_nmas_size expected)
+{
+    expect_fields(name, NMAS_SIZE_FIELDS, &got, &expected);
+}
+
+static void expect_nmas_entry(const char *name, fervolatro_nmas_entry got,
+                              fervolatro_nmas_entry expected)
+{
+    expect_fields(name, NMAS_ENTRY_FIELDS, &got, &expected);
 }
 
 /* Fields behind refusal and place: none is 0, as refusal and place then are, and no
@@ -368,12 +384,75 @@ static const fervolatro_cost CONTINGENCY_COST = {.amount = UINT64_C(14174628212)
 static const fervolatro_cost RAISE_COST = {.amount = UINT64_C(23456943879)};
 static const fervolatro_cost LOWER_COST = {.amount = UINT64_C(43438438043)};
 
+/*
+ * ACCOUNT's reconciliation file, a line of each payment type. ACCOUNT is 4,275,878,552
+ * and CONTRACT 3,405,697,037. The energies are the locked book's, and the amounts those
+ * of the statement's last two lines; the run is the book's.
+ */
+#define FILE_OF(type)                                                    \
+    "20960229,98,287,4275878552,RESTART,3405697037," type                \
+    ",SA1,1.000000,4000000.0001,-2950000.0001,-0.007,-0.008,0.003,0.005," \
+    "-1750000.0001,-1200000.0000\n"
+
+_Static_assert(ACCOUNT == 4275878552 && CONTRACT == 3405697037,
+               "as the file has them");
+
+enum { TYPES = 3, AVAILABILITY = 0, COMPENSATION = 2 };
+
+static const char *const FILES[TYPES] = {
+    FILE_OF("AVAILABILITY"),
+    FILE_OF("ENABLEMENT"),
+    FILE_OF("COMPENSATION"),
+};
+
+/* Of the first and the last type. */
+enum { FILE_LEN = sizeof FILE_OF("AVAILABILITY") - 1 };
+
+static const fervolatro_written WHOLE_FILE = {.length = FILE_LEN};
+
+/*
+ * A text that is read. The sixteen numbers of each row differ from each other; those of
+ * the first are as large as they can be, or nearly, and those of the second small.
+ */
+#define FIRST_LINE                                                           \
+    "20960229,98,287,4275878552,RESTART,3405697037,ENABLEMENT,SA1,0.654321," \
+    "4000000.0003,-5000000.0005,-19999.998,-19999.999,19999.996,19999.997,"  \
+    "-3000000.0001,-2000000.0004\n"
+#define SECOND_LINE                                                     \
+    "20250701,3,7,10,RESTART,17,COMPENSATION,VIC1,0.000008,0.0009,"     \
+    "-0.0031,-0.011,-0.012,0.013,0.014,-0.0015,-0.0016\n"
+
+static const char TEXT[] = FIRST_LINE SECOND_LINE;
+
+enum {
+    TEXT_ROWS = 2,
+    FIRST_LINE_LEN = sizeof FIRST_LINE - 1,
+    TEXT_LEN = sizeof TEXT - 1
+};
+
+static const fervolatro_nmas_size BOTH_ROWS = {.rows = TEXT_ROWS};
+
+static const fervolatro_nmas_entry TEXT_ROW[TEXT_ROWS] = {
+    {.date = DATE, .run = RUN, .interval = INTERVAL, .account = ACCOUNT,
+     .contract = CONTRACT, .type = 1, .region = SA1, .factor = 654321,
+     .payment = UINT64_C(40000000003), .recovery = -INT64_C(50000000005),
+     .own_ace = -19999998, .region_ace = -19999999, .own_asoe = 19999996,
+     .region_asoe = 19999997, .by_ace = -INT64_C(30000000001),
+     .by_asoe = -INT64_C(20000000004)},
+    {.date = 20250701, .run = 3, .interval = 7, .account = 10, .contract = 17,
+     .type = COMPENSATION, .region = 4, .factor = 8, .payment = 9,
+     .recovery = -31, .own_ace = -11, .region_ace = -12, .own_asoe = 13,
+     .region_asoe = 14, .by_ace = -15, .by_asoe = -16},
+};
+
 /* ---- Answers of calls that go well. */
 
 enum { ROOM = STATEMENT_LEN + LINE_LEN, UNTOUCHED = 0xA5 };
 
-/* The statement stands at the front of the buffer, and what follows it is
- * untouched. */
+_Static_assert(ROOM > sizeof FILE_OF("AVAILABILITY"),
+               "a file has room where a statement has");
+
+/* The front of the buffer is what was written, and what follows it is untouched. */
 static void expect_left(const char *name, const uint8_t *buffer, size_t room,
                         const uint8_t *front, size_t front_len)
 {
@@ -454,7 +533,7 @@ static void good_calls_on_the_book(const uint8_t *book)
 }
 
 /* The locked book stands where the book does, and has no contract: the other is not
- * read. It has two accounts and no line, so no pool. */
+ * read. It has two accounts and no line, so no pool, and the file is empty. */
 static void exchanged_books(const uint8_t *book)
 {
     static const fervolatro_written header_alone = {.length = HEADER_LEN};
@@ -473,6 +552,14 @@ static void exchanged_books(const uint8_t *book)
                    fervolatro_statement(locked, LOCKED_LEN, book, BOOK_LEN, 4,
                                         buffer, ROOM),
                    header_alone);
+    expect_written("file, exchanged",
+                   fervolatro_nmas(locked, LOCKED_LEN, book, BOOK_LEN, 4,
+                                   AVAILABILITY, buffer, ROOM),
+                   (fervolatro_written){0});
+    expect_written("file, exchanged, for an account of the other",
+                   fervolatro_nmas(locked, LOCKED_LEN, book, BOOK_LEN, 5,
+                                   AVAILABILITY, buffer, ROOM),
+                   (fervolatro_written){.refusal = 11});
     expect_pool("balance, exchanged",
                 fervolatro_balance(locked, LOCKED_LEN, book, BOOK_LEN, 0),
                 (fervolatro_pool){.refusal = 15});
@@ -498,6 +585,10 @@ static void expect_lengths(const char *name, const uint8_t *book, size_t book_le
     expect_written(name,
                    fervolatro_statement(book, book_len, locked, locked_len,
                                         ACCOUNT, buffer, ROOM),
+                   written);
+    expect_written(name,
+                   fervolatro_nmas(book, book_len, locked, locked_len, ACCOUNT,
+                                   AVAILABILITY, buffer, ROOM),
                    written);
     expect_left(name, buffer, ROOM, buffer, 0);
     expect_pool(name, fervolatro_balance(book, book_len, locked, locked_len, 0),
@@ -597,6 +688,59 @@ static void good_calls_on_rows(const uint8_t *rows)
                 fervolatro_base_cost(rows, ROWS_LEN, 0, RAISE), NO_COST);
 }
 
+/* The answer for ACCOUNT and this payment type, and the buffer, of which so many bytes
+ * are lent. */
+static void expect_file(const char *name, const uint8_t *book, uint64_t type,
+                        size_t room, fervolatro_written expected)
+{
+    uint8_t buffer[ROOM];
+    const uint8_t *front =
+        type < TYPES ? (const uint8_t *)FILES[type] : buffer;
+
+    memset(buffer, UNTOUCHED, ROOM);
+    expect_written(name,
+                   fervolatro_nmas(book, BOOK_LEN, locked, LOCKED_LEN, ACCOUNT,
+                                   type, buffer, room),
+                   expected);
+    expect_left(name, buffer, ROOM, front, (size_t)expected.length);
+}
+
+/* Each type into just its length; then into more, of which what follows is untouched;
+ * then into a byte less. */
+static void good_calls_for_a_file(const uint8_t *book)
+{
+    static const fervolatro_written no_room = {.refusal = 13};
+    uint64_t type;
+
+    for (type = 0; type < TYPES; type++) {
+        const size_t len = strlen(FILES[type]);
+        const fervolatro_written whole = {.length = len};
+
+        expect_file("file", book, type, len, whole);
+        expect_file("file into more", book, type, ROOM, whole);
+        expect_file("file into less", book, type, len - 1, no_room);
+        expect_file("file into one byte", book, type, 1, no_room);
+    }
+}
+
+static void good_calls_on_a_text(const uint8_t *text)
+{
+    uint64_t index;
+
+    expect_nmas_size("rows", fervolatro_nmas_rows(text, TEXT_LEN), BOTH_ROWS);
+    for (index = 0; index < TEXT_ROWS; index++) {
+        expect_nmas_entry("row", fervolatro_nmas_row(text, TEXT_LEN, index),
+                          TEXT_ROW[index]);
+    }
+    expect_nmas_size("rows of the first line",
+                     fervolatro_nmas_rows(text, FIRST_LINE_LEN),
+                     (fervolatro_nmas_size){.rows = 1});
+    expect_nmas_entry("row of the second line",
+                      fervolatro_nmas_row(text + FIRST_LINE_LEN,
+                                          TEXT_LEN - FIRST_LINE_LEN, 0),
+                      TEXT_ROW[1]);
+}
+
 /* ---- Refusals: number and place differ, and every other field is 0. */
 
 /* A book of the most records; the last contract's kind is 3, and no earlier
@@ -646,6 +790,14 @@ static void refused_calls_on_a_book(void)
                    fervolatro_statement(book, LARGEST_LEN, NULL, 0, 1, buffer,
                                         ROOM),
                    refused);
+    expect_written("file refused",
+                   fervolatro_nmas(book, LARGEST_LEN, NULL, 0, 1, AVAILABILITY,
+                                   buffer, ROOM),
+                   refused);
+    expect_written("file of no type, which is looked for first",
+                   fervolatro_nmas(book, LARGEST_LEN, NULL, 0, 1, TYPES, buffer,
+                                   ROOM),
+                   (fervolatro_written){.refusal = 15});
     expect_left("statement refused", buffer, ROOM, buffer, 0);
 
     expect_pool("balance refused",
@@ -762,6 +914,66 @@ static void refused_calls_on_rows(void)
                 refused);
 }
 
+/* Lines of which the last is cut short. It is refused by 19, at a place of 74,565 =
+ * 0x12345: above 2^16, and different in each of its three bytes. Without it the lines
+ * are read, and so many rows they have. */
+#define SHORT_LINE                                                      \
+    "20250101,1,1,1,RESTART,1,ENABLEMENT,SA1,0.000001,0.0000,0.0000,"   \
+    "0.000,0.000,0.000,0.000,0.0000,0.0000\n"
+
+enum {
+    GOOD_LINES = 0x12345,
+    SHORT_LINE_LEN = sizeof SHORT_LINE - 1,
+    REFUSED_LINE_AT = GOOD_LINES * SHORT_LINE_LEN,
+    REFUSED_TEXT_LEN = REFUSED_LINE_AT + SHORT_LINE_LEN - 1
+};
+
+static const fervolatro_nmas_entry SHORT_ROW = {.date = 20250101,
+                                                .run = 1,
+                                                .interval = 1,
+                                                .account = 1,
+                                                .contract = 1,
+                                                .type = 1,
+                                                .region = SA1,
+                                                .factor = 1};
+
+static void make_refused_text(uint8_t text[REFUSED_TEXT_LEN])
+{
+    size_t i;
+
+    for (i = 0; i < GOOD_LINES; i++) {
+        memcpy(text + i * SHORT_LINE_LEN, SHORT_LINE, SHORT_LINE_LEN);
+    }
+    memcpy(text + REFUSED_LINE_AT, SHORT_LINE, SHORT_LINE_LEN - 1);
+}
+
+static void refused_calls_on_a_text(void)
+{
+    static const fervolatro_nmas_entry refused = {.refusal = 19,
+                                                  .place = GOOD_LINES};
+    static uint8_t text[REFUSED_TEXT_LEN];
+
+    make_refused_text(text);
+    expect_nmas_size("rows of many lines",
+                     fervolatro_nmas_rows(text, REFUSED_LINE_AT),
+                     (fervolatro_nmas_size){.rows = GOOD_LINES});
+    expect_nmas_size("rows refused",
+                     fervolatro_nmas_rows(text, REFUSED_TEXT_LEN),
+                     (fervolatro_nmas_size){.refusal = 19, .place = GOOD_LINES});
+
+    expect_nmas_entry("the last of many rows",
+                      fervolatro_nmas_row(text, REFUSED_LINE_AT, GOOD_LINES - 1),
+                      SHORT_ROW);
+    expect_nmas_entry("a row past many",
+                      fervolatro_nmas_row(text, REFUSED_LINE_AT, GOOD_LINES),
+                      (fervolatro_nmas_entry){.refusal = 15});
+    expect_nmas_entry("row 0 of a text whose last line is refused",
+                      fervolatro_nmas_row(text, REFUSED_TEXT_LEN, 0), refused);
+    expect_nmas_entry("a row past one that is refused",
+                      fervolatro_nmas_row(text, REFUSED_TEXT_LEN, UINT64_MAX),
+                      refused);
+}
+
 /* ---- The longest statement. */
 
 /*
@@ -832,6 +1044,40 @@ static void numbers_past_the_end(const uint8_t *book, const uint8_t *statement)
     }
 }
 
+/* Each is a row's number, and one bit more: 2^32 is not row 0. */
+static void rows_past_the_end(const uint8_t *text)
+{
+    static const fervolatro_nmas_entry no_row = {.refusal = 15};
+    uint64_t row;
+    int bit;
+
+    for (bit = 1; bit < 64; bit++) {
+        for (row = 0; row < TEXT_ROWS; row++) {
+            expect_nmas_entry("row of a bit more",
+                              fervolatro_nmas_row(text, TEXT_LEN,
+                                                  (UINT64_C(1) << bit) + row),
+                              no_row);
+        }
+    }
+}
+
+/* Each is a payment type's number, and one bit more, or the first that is none. */
+static void types_that_are_not_there(const uint8_t *book)
+{
+    static const fervolatro_written no_type = {.refusal = 15};
+    uint64_t type;
+    int bit;
+
+    expect_file("file of type 3", book, TYPES, ROOM, no_type);
+    expect_file("file of type 2^64 - 1", book, UINT64_MAX, ROOM, no_type);
+    for (bit = 2; bit < 64; bit++) {
+        for (type = 0; type < TYPES; type++) {
+            expect_file("file of a type of a bit more", book,
+                        (UINT64_C(1) << bit) + type, ROOM, no_type);
+        }
+    }
+}
+
 /* Each differs from an account that is there in one bit. */
 static void accounts_that_are_not_there(const uint8_t *book)
 {
@@ -850,6 +1096,10 @@ static void accounts_that_are_not_there(const uint8_t *book)
         expect_written("account of another bit",
                        fervolatro_statement(book, BOOK_LEN, locked, LOCKED_LEN,
                                             account, buffer, ROOM),
+                       no_account);
+        expect_written("file of an account of another bit",
+                       fervolatro_nmas(book, BOOK_LEN, locked, LOCKED_LEN,
+                                       account, AVAILABILITY, buffer, ROOM),
                        no_account);
     }
     expect_left("account of another bit", buffer, ROOM, buffer, 0);
@@ -918,6 +1168,10 @@ static void long_book(uint8_t *mapped, const uint8_t *book)
                    fervolatro_statement(mapped, len, locked, LOCKED_LEN, ACCOUNT,
                                         buffer, ROOM),
                    (fervolatro_written){.refusal = 4});
+    expect_written("file of a long book",
+                   fervolatro_nmas(mapped, len, locked, LOCKED_LEN, ACCOUNT,
+                                   AVAILABILITY, buffer, ROOM),
+                   (fervolatro_written){.refusal = 4});
     expect_left("statement of a long book", buffer, ROOM, buffer, 0);
 }
 
@@ -943,6 +1197,10 @@ static void long_locked(uint8_t *mapped, const uint8_t *book)
     expect_written("statement with a long locked book",
                    fervolatro_statement(book, BOOK_LEN, mapped, len, ACCOUNT,
                                         buffer, ROOM),
+                   refused);
+    expect_written("file with a long locked book",
+                   fervolatro_nmas(book, BOOK_LEN, mapped, len, ACCOUNT,
+                                   AVAILABILITY, buffer, ROOM),
                    refused);
     expect_left("statement with a long locked book", buffer, ROOM, buffer, 0);
 }
@@ -983,6 +1241,21 @@ static void long_rows(uint8_t *mapped, const uint8_t *rows)
                 fervolatro_base_cost(mapped, len, REGULATION, RAISE), refused);
 }
 
+/* The bytes begin with a text, and go on with an empty line. */
+static void long_text(uint8_t *mapped, const uint8_t *text)
+{
+    const size_t len = TWO_TO_32 + TEXT_LEN;
+
+    memcpy(mapped, text, TEXT_LEN);
+    mapped[TEXT_LEN] = '\n';
+    expect_nmas_size("rows of a long text", fervolatro_nmas_rows(mapped, len),
+                     (fervolatro_nmas_size){.refusal = 19, .place = TEXT_ROWS});
+    expect_nmas_entry("row of a long text",
+                      fervolatro_nmas_row(mapped, len, 0),
+                      (fervolatro_nmas_entry){.refusal = 19,
+                                              .place = TEXT_ROWS});
+}
+
 /* A buffer of 2^32 + 10 bytes has room for a statement; one of 10 has not. */
 static void long_buffer(uint8_t *mapped, const uint8_t *book,
                         const uint8_t *statement)
@@ -1002,6 +1275,13 @@ static void long_buffer(uint8_t *mapped, const uint8_t *book,
                    WHOLE);
     expect_left("rewrite into a long buffer", mapped, ROOM, statement,
                 STATEMENT_LEN);
+    memset(mapped, UNTOUCHED, ROOM);
+    expect_written("file into a long buffer",
+                   fervolatro_nmas(book, BOOK_LEN, locked, LOCKED_LEN, ACCOUNT,
+                                   COMPENSATION, mapped, len),
+                   WHOLE_FILE);
+    expect_left("file into a long buffer", mapped, ROOM,
+                (const uint8_t *)FILES[COMPENSATION], FILE_LEN);
     memset(mapped, UNTOUCHED, LINES_LEN + 1);
     expect_written("lines into a long buffer",
                    fervolatro_lines(statement, STATEMENT_LEN, mapped, len),
@@ -1011,7 +1291,8 @@ static void long_buffer(uint8_t *mapped, const uint8_t *book,
 }
 
 static void lengths(const char *machine, const uint8_t *book,
-                    const uint8_t *statement, const uint8_t *rows)
+                    const uint8_t *statement, const uint8_t *rows,
+                    const uint8_t *text)
 {
     uint8_t *mapped = map();
 
@@ -1026,6 +1307,7 @@ static void lengths(const char *machine, const uint8_t *book,
     long_statement(mapped, statement);
     long_buffer(mapped, book, statement);
     long_rows(mapped, rows);
+    long_text(mapped, text);
     munmap(mapped, MAPPED);
 }
 
@@ -1065,6 +1347,10 @@ static void no_book_at(const uint8_t *pointer)
                    fervolatro_statement(pointer, 0, locked, LOCKED_LEN, ACCOUNT,
                                         buffer, ROOM),
                    refused);
+    expect_written("file of nothing",
+                   fervolatro_nmas(pointer, 0, locked, LOCKED_LEN, ACCOUNT,
+                                   AVAILABILITY, buffer, ROOM),
+                   refused);
     expect_left("statement of nothing", buffer, ROOM, buffer, 0);
 }
 
@@ -1089,6 +1375,10 @@ static void no_locked_at(const uint8_t *pointer, const uint8_t *book)
     expect_written("statement without a locked book",
                    fervolatro_statement(book, BOOK_LEN, pointer, 0, ACCOUNT,
                                         buffer, ROOM),
+                   refused);
+    expect_written("file without a locked book",
+                   fervolatro_nmas(book, BOOK_LEN, pointer, 0, ACCOUNT,
+                                   AVAILABILITY, buffer, ROOM),
                    refused);
     expect_left("statement without a locked book", buffer, ROOM, buffer, 0);
     expect_written("length of a book that wants no other",
@@ -1124,7 +1414,16 @@ static void no_rows_at(const uint8_t *pointer)
                 fervolatro_base_cost(pointer, 0, REGULATION, RAISE), NO_COST);
 }
 
-/* No buffer: 13, where nothing else is wrong. */
+/* No text: no rows, and not refused. */
+static void no_text_at(const uint8_t *pointer)
+{
+    expect_nmas_size("rows of nothing", fervolatro_nmas_rows(pointer, 0),
+                     (fervolatro_nmas_size){0});
+    expect_nmas_entry("row of nothing", fervolatro_nmas_row(pointer, 0, 0),
+                      (fervolatro_nmas_entry){.refusal = 15});
+}
+
+/* No buffer: 13, where nothing else is wrong. A file without rows needs none. */
 static void no_buffer_at(uint8_t *pointer, const uint8_t *book,
                          const uint8_t *statement)
 {
@@ -1138,6 +1437,14 @@ static void no_buffer_at(uint8_t *pointer, const uint8_t *book,
                    fervolatro_statement(book, BOOK_LEN, locked, LOCKED_LEN, 0,
                                         pointer, 0),
                    (fervolatro_written){.refusal = 11});
+    expect_written("file into nothing",
+                   fervolatro_nmas(book, BOOK_LEN, locked, LOCKED_LEN, ACCOUNT,
+                                   AVAILABILITY, pointer, 0),
+                   no_room);
+    expect_written("empty file into nothing",
+                   fervolatro_nmas(locked, LOCKED_LEN, NULL, 0, ACCOUNT,
+                                   AVAILABILITY, pointer, 0),
+                   (fervolatro_written){0});
     expect_written("rewrite into nothing",
                    fervolatro_rewrite(statement, STATEMENT_LEN, pointer, 0),
                    no_room);
@@ -1155,6 +1462,13 @@ static void nothing_into_nothing(const uint8_t *from, uint8_t *into)
     expect_written("statement of nothing into nothing",
                    fervolatro_statement(from, 0, into, 0, ACCOUNT, into, 0),
                    (fervolatro_written){.refusal = 1});
+    expect_written("file of nothing into nothing",
+                   fervolatro_nmas(from, 0, into, 0, ACCOUNT, AVAILABILITY, into,
+                                   0),
+                   (fervolatro_written){.refusal = 1});
+    expect_written("file of no type, of nothing into nothing",
+                   fervolatro_nmas(from, 0, into, 0, ACCOUNT, TYPES, into, 0),
+                   (fervolatro_written){.refusal = 15});
     expect_written("rewrite of nothing into nothing",
                    fervolatro_rewrite(from, 0, into, 0),
                    (fervolatro_written){.refusal = 14});
@@ -1164,7 +1478,7 @@ static void nothing_into_nothing(const uint8_t *from, uint8_t *into)
 }
 
 static void slices_of_no_bytes(uint8_t *book, uint8_t *statement,
-                               const uint8_t *rows)
+                               const uint8_t *rows, const uint8_t *text)
 {
     uint8_t *pointers[POINTERS];
     size_t i, other;
@@ -1173,6 +1487,7 @@ static void slices_of_no_bytes(uint8_t *book, uint8_t *statement,
     no_locked_at(locked, book);
     no_statement_at(statement);
     no_rows_at(rows);
+    no_text_at(text);
     no_buffer_at((uint8_t[1]){0}, book, statement);
     nothing_into_nothing(book, statement);
     nowhere(pointers);
@@ -1181,6 +1496,7 @@ static void slices_of_no_bytes(uint8_t *book, uint8_t *statement,
         no_locked_at(pointers[i], book);
         no_statement_at(pointers[i]);
         no_rows_at(pointers[i]);
+        no_text_at(pointers[i]);
         no_buffer_at(pointers[i], book, statement);
         for (other = 0; other < POINTERS; other++) {
             nothing_into_nothing(pointers[i], pointers[other]);
@@ -1291,6 +1607,99 @@ static void locked_before_a_wall(const uint8_t *book)
     }
 }
 
+/* Files of the same first bytes, of the book and of the locked one. */
+static void files_of_a_front(const uint8_t *book, uint8_t *buffer)
+{
+    uint8_t *end = before_a_wall(BOOK_LEN) + BOOK_LEN;
+    size_t len;
+
+    for (len = 0; len <= BOOK_LEN; len++) {
+        const uint64_t refusal = refusal_of_front(len);
+
+        memcpy(end - len, book, len);
+        expect_written("file before a wall",
+                       fervolatro_nmas(end - len, len, locked, LOCKED_LEN,
+                                       ACCOUNT, COMPENSATION, buffer, FILE_LEN),
+                       (fervolatro_written){.refusal = refusal,
+                                            .length = refusal == 0 ? FILE_LEN
+                                                                   : 0});
+    }
+}
+
+static void files_beside_a_front(const uint8_t *book, uint8_t *buffer)
+{
+    static const fervolatro_written refused = {.refusal = 18,
+                                               .place = CONTRACTS_AT};
+    uint8_t *end = before_a_wall(LOCKED_LEN) + LOCKED_LEN;
+    size_t len;
+
+    for (len = 1; len <= LOCKED_LEN; len++) {
+        memcpy(end - len, locked, len);
+        expect_written("file, locked before a wall",
+                       fervolatro_nmas(book, BOOK_LEN, end - len, len, ACCOUNT,
+                                       COMPENSATION, buffer, FILE_LEN),
+                       len == LOCKED_LEN ? WHOLE_FILE : refused);
+    }
+}
+
+static void files_before_a_wall(const uint8_t *book)
+{
+    const uint8_t *file = (const uint8_t *)FILES[COMPENSATION];
+    uint8_t *buffer = before_a_wall(FILE_LEN);
+
+    files_of_a_front(book, buffer);
+    expect_left("file before a wall", buffer, FILE_LEN, file, FILE_LEN);
+    memset(buffer, UNTOUCHED, FILE_LEN);
+    files_beside_a_front(book, buffer);
+    expect_left("file, locked before a wall", buffer, FILE_LEN, file, FILE_LEN);
+}
+
+/* The first bytes of the text: no line, one or two are whole, or the line that is not
+ * is refused. */
+static void texts_before_a_wall(const uint8_t *text)
+{
+    uint8_t *end = before_a_wall(TEXT_LEN) + TEXT_LEN;
+    size_t len;
+
+    for (len = 0; len <= TEXT_LEN; len++) {
+        const uint64_t lines = (len >= FIRST_LINE_LEN) + (len >= TEXT_LEN);
+        const int is_whole =
+            len == 0 || len == FIRST_LINE_LEN || len == TEXT_LEN;
+        const fervolatro_nmas_size rows = {.rows = lines};
+        const fervolatro_nmas_size refused = {.refusal = 19, .place = lines};
+        const fervolatro_nmas_entry no_row = {.refusal = is_whole ? 15 : 19,
+                                              .place = is_whole ? 0 : lines};
+
+        memcpy(end - len, text, len);
+        expect_nmas_size("rows before a wall",
+                         fervolatro_nmas_rows(end - len, len),
+                         is_whole ? rows : refused);
+        expect_nmas_entry("row before a wall",
+                          fervolatro_nmas_row(end - len, len, lines), no_row);
+    }
+}
+
+/* The file of the book with a contract of kind 1. Its energies are the book's: of the
+ * consumed half, 20,000,000,001, ACCOUNT has 3 / 6, which is 10,000,000,000 and a half;
+ * of the sent-out half, 20,000,000,000, a third. */
+static void expect_file_beside(const uint8_t *ordinary, const uint8_t *closed,
+                               size_t len)
+{
+    static const char file[] =
+        "20960229,98,287,4275878552,RESTART,3405697037,ENABLEMENT,SA1,1.000000,"
+        "4000000.0001,-1666666.6668,-0.003,-0.006,0.001,0.003,-1000000.0001,"
+        "-666666.6667\n";
+    uint8_t buffer[ROOM];
+
+    memset(buffer, UNTOUCHED, ROOM);
+    expect_written("file beside closed bytes",
+                   fervolatro_nmas(ordinary, BOOK_LEN, closed, len, ACCOUNT, 1,
+                                   buffer, ROOM),
+                   (fervolatro_written){.length = sizeof file - 1});
+    expect_left("file beside closed bytes", buffer, ROOM,
+                (const uint8_t *)file, sizeof file - 1);
+}
+
 /* Bytes that nobody may read are lent as the locked book, and the contract is of kind
  * 1: none of them is looked at. The accounts are then 3 and 5 and ACCOUNT. */
 static void a_locked_book_that_is_closed(const uint8_t *book)
@@ -1314,6 +1723,7 @@ static void a_locked_book_that_is_closed(const uint8_t *book)
                    fervolatro_statement(ordinary, BOOK_LEN, closed, len, ACCOUNT,
                                         buffer, STATEMENT_LEN),
                    WHOLE);
+    expect_file_beside(ordinary, closed, len);
     expect_pool("balance beside closed bytes",
                 fervolatro_balance(ordinary, BOOK_LEN, closed, len, 0),
                 (fervolatro_pool){.amount = POOL[0].amount,
@@ -1349,6 +1759,10 @@ typedef void *named_call(void *answer, const uint8_t *bytes, size_t len,
 typedef void *statement_call(void *answer, const uint8_t *book, size_t len,
                              const uint8_t *other, size_t other_len,
                              uint32_t account, uint8_t *buffer, size_t room);
+typedef void *file_call(void *answer, const uint8_t *book, size_t len,
+                        const uint8_t *other, size_t other_len,
+                        uint32_t account, uint64_t type, uint8_t *buffer,
+                        size_t room);
 typedef void *rewrite_call(void *answer, const uint8_t *statement, size_t len,
                            uint8_t *buffer, size_t room);
 
@@ -1428,6 +1842,23 @@ static void painted_answers_on_rows(const uint8_t *rows)
     expect_painted("base cost, painted", &answer, COST_FIELDS, &RAISE_COST);
 }
 
+static void painted_answers_of_files(const uint8_t *book, const uint8_t *text)
+{
+    file_call *file_into = (file_call *)(any_call *)fervolatro_nmas;
+    read_call *rows_into = (read_call *)(any_call *)fervolatro_nmas_rows;
+    numbered_call *row_into = (numbered_call *)(any_call *)fervolatro_nmas_row;
+    uint8_t buffer[FILE_LEN];
+    painted answer;
+
+    file_into(paint(&answer), book, BOOK_LEN, locked, LOCKED_LEN, ACCOUNT,
+              AVAILABILITY, buffer, FILE_LEN);
+    expect_painted("file, painted", &answer, WRITTEN_FIELDS, &WHOLE_FILE);
+    rows_into(paint(&answer), text, TEXT_LEN);
+    expect_painted("rows, painted", &answer, NMAS_SIZE_FIELDS, &BOTH_ROWS);
+    row_into(paint(&answer), text, TEXT_LEN, 0);
+    expect_painted("row, painted", &answer, NMAS_ENTRY_FIELDS, &TEXT_ROW[0]);
+}
+
 /* An account has 32 bits, and the upper half of the register that it comes in may
  * hold anything (the same section of the ABI). */
 typedef fervolatro_written wide_length_call(const uint8_t *book, size_t len,
@@ -1439,6 +1870,11 @@ typedef fervolatro_written wide_account_call(const uint8_t *book, size_t len,
                                              size_t other_len,
                                              uint64_t account, uint8_t *buffer,
                                              size_t room);
+typedef fervolatro_written wide_file_call(const uint8_t *book, size_t len,
+                                          const uint8_t *other,
+                                          size_t other_len, uint64_t account,
+                                          uint64_t type, uint8_t *buffer,
+                                          size_t room);
 
 static void account_in_a_wide_register(const uint8_t *book)
 {
@@ -1447,6 +1883,7 @@ static void account_in_a_wide_register(const uint8_t *book)
         (wide_length_call *)(any_call *)fervolatro_length;
     wide_account_call *statement_of =
         (wide_account_call *)(any_call *)fervolatro_statement;
+    wide_file_call *file_of = (wide_file_call *)(any_call *)fervolatro_nmas;
     uint8_t buffer[STATEMENT_LEN];
 
     expect_written("length for an account in a wide register",
@@ -1456,6 +1893,10 @@ static void account_in_a_wide_register(const uint8_t *book)
                    statement_of(book, BOOK_LEN, locked, LOCKED_LEN, account,
                                 buffer, length_asked(book)),
                    WHOLE);
+    expect_written("file of an account in a wide register",
+                   file_of(book, BOOK_LEN, locked, LOCKED_LEN, account,
+                           AVAILABILITY, buffer, FILE_LEN),
+                   WHOLE_FILE);
 }
 
 /* So has the id of a constraint. */
@@ -1481,6 +1922,9 @@ static void fields_that_differ(void)
     expect_distinct("the unit's first line", ENTRY_FIELDS, &LINE[1]);
     expect_distinct("the first pool", POOL_FIELDS, &POOL[0]);
     expect_distinct("the raise payment", COST_FIELDS, &RAISE_PAYMENT);
+    expect_distinct("the first row", NMAS_ENTRY_FIELDS, &TEXT_ROW[0]);
+    expect_distinct("the second row", NMAS_ENTRY_FIELDS, &TEXT_ROW[1]);
+    expect_distinct("how many rows", NMAS_SIZE_FIELDS, &BOTH_ROWS);
 }
 
 static void calls_on_books(const uint8_t *book, const uint8_t *statement)
@@ -1519,8 +1963,21 @@ static void calls_on_rows(const uint8_t *rows)
     id_in_a_wide_register(rows);
 }
 
+static void calls_on_files(const uint8_t *book, const uint8_t *text)
+{
+    good_calls_for_a_file(book);
+    good_calls_on_a_text(text);
+    refused_calls_on_a_text();
+    types_that_are_not_there(book);
+    rows_past_the_end(text);
+    painted_answers_of_files(book, text);
+    files_before_a_wall(book);
+    texts_before_a_wall(text);
+}
+
 int main(int argc, char **argv)
 {
+    const uint8_t *text = (const uint8_t *)TEXT;
     uint8_t book[BOOK_LEN], statement[STATEMENT_LEN], rows[ROWS_LEN];
 
     if (argc != 2) {
@@ -1536,9 +1993,10 @@ int main(int argc, char **argv)
     calls_on_books(book, statement);
     calls_on_statements(statement);
     calls_on_rows(rows);
+    calls_on_files(book, text);
     numbers_past_the_end(book, statement);
-    lengths(argv[1], book, statement, rows);
-    slices_of_no_bytes(book, statement, rows);
+    lengths(argv[1], book, statement, rows, text);
+    slices_of_no_bytes(book, statement, rows, text);
 
     return failures == 0 ? EXIT_SUCCESS : EXIT_FAILURE;
 }

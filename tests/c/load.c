@@ -1,7 +1,7 @@
 /*
  * Loads the shared library, as a program does that was not linked with it, and
- * makes every call of the header, on the worked book and on dispatch rows. The
- * paths of the library and of the book are the arguments.
+ * makes every call of the header, on the worked book, on dispatch rows and on a
+ * reconciliation file. The paths of the library and of the book are the arguments.
  *
  * Exits non-zero with a message if the library or a call is not there, or if an
  * answer is not the expected one.
@@ -36,6 +36,9 @@ static struct {
     CALL(rewrite);
     CALL(payment);
     CALL(base_cost);
+    CALL(nmas);
+    CALL(nmas_rows);
+    CALL(nmas_row);
 } library;
 
 static void *find(void *loaded, const char *name)
@@ -70,6 +73,9 @@ static void *load(const char *path)
     FIND(loaded, rewrite);
     FIND(loaded, payment);
     FIND(loaded, base_cost);
+    FIND(loaded, nmas);
+    FIND(loaded, nmas_rows);
+    FIND(loaded, nmas_row);
     return loaded;
 }
 
@@ -156,20 +162,33 @@ static uint8_t *write_statement(const uint8_t *book, size_t len)
     return statement;
 }
 
-/* The worked book with a test payment of 0 behind it, all of whose benefit is
- * NSW1's: 1,000,000 = 0x0F4240. The worked book is its locked one, and has two
- * accounts. */
+/* The worked book with a contract of the kind behind it: a payment of 1,000,000 =
+ * 0x0F4240, that is $100, all of it for NSW1. */
+enum { WITH_CONTRACT_LEN = BOOK_LEN + FERVOLATRO_CONTRACT_SIZE };
+
+static void put_contract(uint8_t with_contract[WITH_CONTRACT_LEN],
+                         const uint8_t *book, uint8_t kind)
+{
+    static const uint8_t million[] = {0x40, 0x42, 0x0F};
+    uint8_t *contract = with_contract + BOOK_LEN;
+
+    memset(with_contract, 0, WITH_CONTRACT_LEN);
+    memcpy(with_contract, book, BOOK_LEN);
+    with_contract[20] = 1;
+    contract[0] = 1;
+    contract[4] = kind;
+    memcpy(contract + 8, million, sizeof million);
+    memcpy(contract + 16, million, sizeof million);
+}
+
+/* The worked book is the locked one, and has two accounts. */
 static void locked_book(const uint8_t *book)
 {
-    enum { LEN = BOOK_LEN + FERVOLATRO_CONTRACT_SIZE };
-    uint8_t with_test[LEN] = {0}, *contract = with_test + BOOK_LEN;
+    enum { LEN = WITH_CONTRACT_LEN };
+    uint8_t with_test[LEN];
     fervolatro_verdict verdict;
 
-    memcpy(with_test, book, BOOK_LEN);
-    with_test[20] = 1;
-    contract[0] = 1;
-    contract[4] = FERVOLATRO_CONTRACT_TEST;
-    memcpy(contract + 16, (uint8_t[]){0x40, 0x42, 0x0F}, 3);
+    put_contract(with_test, book, FERVOLATRO_CONTRACT_TEST);
     verdict = library.check(with_test, LEN, NULL, 0);
     expect("no locked book", (int64_t)verdict.refusal,
            FERVOLATRO_REFUSED_NO_LOCKED);
@@ -246,6 +265,50 @@ static void costs(void)
     expect("its place", (int64_t)cost.place, FERVOLATRO_DISPATCH_ROW_SIZE);
 }
 
+/* Account 7's, of the worked book with a contract: halves of 500,000, of which 15 of
+ * 1,015 by ACE are 7,389.16 and 5 of 585 by ASOE 4,273.50. */
+static const char FILE_OF_7[] =
+    "20250608,1,1,7,RESTART,1,COMPENSATION,NSW1,1.000000,100.0000,"
+    "-1.1663,-15.000,-1015.000,5.000,585.000,-0.7389,-0.4274\n";
+
+enum { FILE_LEN = sizeof FILE_OF_7 - 1 };
+
+static void write_file(const uint8_t *book)
+{
+    enum { LEN = WITH_CONTRACT_LEN };
+    uint8_t with_contract[LEN], text[FILE_LEN] = {0};
+    fervolatro_written written;
+
+    put_contract(with_contract, book, FERVOLATRO_CONTRACT_ORDINARY);
+    written = library.nmas(with_contract, LEN, NULL, 0, 7,
+                           FERVOLATRO_PAYMENT_TYPE_COMPENSATION, text, FILE_LEN);
+    expect("file", (int64_t)written.refusal, FERVOLATRO_NOT_REFUSED);
+    expect("its length", (int64_t)written.length, FILE_LEN);
+    expect("its bytes", memcmp(text, FILE_OF_7, FILE_LEN), 0);
+    written = library.nmas(with_contract, LEN, NULL, 0, 7, 3, text, FILE_LEN);
+    expect("type 3", (int64_t)written.refusal, FERVOLATRO_REFUSED_PAST_END);
+}
+
+static void read_file(void)
+{
+    const uint8_t *text = (const uint8_t *)FILE_OF_7;
+    fervolatro_nmas_size size = library.nmas_rows(text, FILE_LEN);
+    fervolatro_nmas_entry row = library.nmas_row(text, FILE_LEN, 0);
+
+    expect("rows", (int64_t)size.refusal, FERVOLATRO_NOT_REFUSED);
+    expect("which are", (int64_t)size.rows, 1);
+    expect("row 0", (int64_t)row.refusal, FERVOLATRO_NOT_REFUSED);
+    expect("payment", (int64_t)row.payment, 1000000);
+    expect("type", (int64_t)row.type, FERVOLATRO_PAYMENT_TYPE_COMPENSATION);
+    expect("ACE of all", row.region_ace, -1015000);
+    expect("by ASOE", row.by_asoe, -4274);
+    size = library.nmas_rows(text, FILE_LEN - 1);
+    expect("a file cut short", (int64_t)size.refusal,
+           FERVOLATRO_REFUSED_NMAS_LINE);
+    row = library.nmas_row(text, FILE_LEN, 1);
+    expect("row 1", (int64_t)row.refusal, FERVOLATRO_REFUSED_PAST_END);
+}
+
 int main(int argc, char **argv)
 {
     uint8_t book[BOOK_LEN], *statement;
@@ -267,6 +330,8 @@ int main(int argc, char **argv)
     read_all(statement);
     write_again(statement);
     costs();
+    write_file(book);
+    read_file();
     free(statement);
     expect("unloading", dlclose(loaded), 0);
 

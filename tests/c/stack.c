@@ -3,11 +3,12 @@
  * own, painted before. A book and an account are the arguments, and a locked book if
  * there is one. Prints the bytes that each call paints over: a check, the length of
  * the account's statement, the statement into just so many bytes, the balances (the
- * most over all pools), the statement's header, its first line, all its lines and the
- * statement written again, and a payment and a base cost (the most over few dispatch
- * rows and many). Of the calls on books and statements it is the most over that book
- * and the largest ones, alone and with a locked book as large. Exits non-zero if one
- * of them passes its limit.
+ * most over all pools), the statement's header, its first line, all its lines, the
+ * statement written again and the account's reconciliation file, and a payment, a base
+ * cost, how many rows a reconciliation file has and its last row (the most over few
+ * dispatch rows or lines and many). Of the calls on books and statements it is the most
+ * over that book and the largest ones, alone and with a locked book as large, and the
+ * one of the longest file. Exits non-zero if one of them passes its limit.
  */
 #define _XOPEN_SOURCE 700
 
@@ -29,15 +30,17 @@ enum {
 };
 
 /* The bytes that a call may use: what it needs, up to the next multiple of 16, so
- * that more is seen; of the calls on a statement and on dispatch rows what the most
- * of them needs. No call may have more than 4,096. */
+ * that more is seen; of the calls on a statement, on dispatch rows and on a
+ * reconciliation file what the most of them needs. No call may have more than 4,096. */
 enum {
     CHECK_LIMIT = 704,
     LENGTH_LIMIT = 976,
     STATEMENT_LIMIT = 1408,
     BALANCE_LIMIT = 3696,
     READING_LIMIT = 240,
-    DISPATCH_LIMIT = 192
+    DISPATCH_LIMIT = 192,
+    FILE_LIMIT = 1920,
+    FILE_READING_LIMIT = 640
 };
 
 /* A byte more than any book has: a longer file is then refused. */
@@ -48,7 +51,10 @@ static uint8_t statement[FERVOLATRO_LARGEST_STATEMENT];
 static uint8_t buffer[FERVOLATRO_LARGEST_STATEMENT];
 static fervolatro_fields lines[FERVOLATRO_MOST_LINES];
 static uint8_t rows[MANY_ROWS * FERVOLATRO_DISPATCH_ROW_SIZE];
-static size_t book_len, locked_len, statement_len, rows_len;
+/* A file that is written, and one that is read. */
+static uint8_t file[FERVOLATRO_LARGEST_NMAS];
+static uint8_t text[MANY_ROWS * LONGEST_LINE_LEN];
+static size_t book_len, locked_len, statement_len, rows_len, text_rows;
 static uint32_t account;
 static uint64_t pool, refusal;
 
@@ -123,6 +129,26 @@ static void make_base_cost(void)
                   .refusal;
 }
 
+static void write_file(void)
+{
+    refusal = fervolatro_nmas(book, book_len, locked, locked_len, account,
+                              FERVOLATRO_PAYMENT_TYPE_AVAILABILITY, file,
+                              sizeof file)
+                  .refusal;
+}
+
+static void count_file_rows(void)
+{
+    refusal = fervolatro_nmas_rows(text, text_rows * LONGEST_LINE_LEN).refusal;
+}
+
+static void read_file_row(void)
+{
+    refusal = fervolatro_nmas_row(text, text_rows * LONGEST_LINE_LEN,
+                                  text_rows - 1)
+                  .refusal;
+}
+
 /* How many bytes are painted over, down from the top, after the call. */
 static size_t painted_over(void (*call)(void))
 {
@@ -172,11 +198,14 @@ static struct measured {
     {"line", read_line, READING_LIMIT, 0},
     {"lines", read_lines, READING_LIMIT, 0},
     {"rewrite", rewrite, READING_LIMIT, 0},
+    {"file", write_file, FILE_LIMIT, 0},
     {"payment", make_payment, DISPATCH_LIMIT, 0},
     {"base cost", make_base_cost, DISPATCH_LIMIT, 0},
+    {"file's rows", count_file_rows, FILE_READING_LIMIT, 0},
+    {"file's row", read_file_row, FILE_READING_LIMIT, 0},
 };
 
-enum { CALLS = sizeof calls / sizeof calls[0], ON_BOOKS = CALLS - 2 };
+enum { CALLS = sizeof calls / sizeof calls[0], ON_BOOKS = CALLS - 4 };
 
 /* A refused call may end early, and say little. */
 static void measure(struct measured *measured)
@@ -204,8 +233,8 @@ static void measure_balances(struct measured *measured)
     }
 }
 
-/* The calls on the books and on the account's statement. The length is asked before
- * the statement is written, and that is read then. */
+/* The calls on the books and on the account's statement, and its file. The length is
+ * asked before the statement is written, and that is read then. */
 static void measure_books(void)
 {
     size_t i;
@@ -220,7 +249,8 @@ static void measure_books(void)
 }
 
 /* The largest books: one alone, and one whose contracts want the other. All units of
- * the first are ACCOUNT's, and those of the locked one each have an account. */
+ * the first are ACCOUNT's, and those of the locked one each have an account. Then the
+ * book of the longest file. */
 static void measure_largest(void)
 {
     account = ACCOUNT;
@@ -232,9 +262,13 @@ static void measure_largest(void)
     make_largest(book, 0, 2);
     make_largest(locked, 1, 1);
     measure_books();
+    book_len = LONGEST_FILE_BOOK_LEN;
+    locked_len = 0;
+    make_longest_file(book);
+    measure_books();
 }
 
-/* Few rows and many. */
+/* Few dispatch rows and many, and as many lines of a file. */
 static void measure_rows(void)
 {
     static const size_t counts[] = {FEW_ROWS, MANY_ROWS};
@@ -242,6 +276,7 @@ static void measure_rows(void)
 
     for (i = 0; i < sizeof counts / sizeof counts[0]; i++) {
         rows_len = counts[i] * FERVOLATRO_DISPATCH_ROW_SIZE;
+        text_rows = counts[i];
         for (call = ON_BOOKS; call < CALLS; call++) {
             measure(&calls[call]);
         }
@@ -304,6 +339,7 @@ int main(int argc, char **argv)
     account = (uint32_t)strtoul(argv[2], NULL, 10);
     locked_len = argc == 4 ? read_book(argv[3], locked) : 0;
     make_rows();
+    put_longest_lines(text, MANY_ROWS);
 
     measure_books();
     measure_largest();

@@ -1,8 +1,13 @@
 // What a caller in C or Rust is answered (include/fervolatro.h): plain structs of numbers, and how each case of an answer fills them.
 ghost use mathlib.Core.Path.{_≡_};
-ghost use Rattle.answers.specs.Answers.{verdictAnswer, writtenAnswer, headingAnswer, entryAnswer, poolAnswer, costAnswer};
+ghost use Rattle.answers.specs.Answers.{verdictAnswer, writtenAnswer, headingAnswer, entryAnswer, poolAnswer, costAnswer, nmasSizeAnswer, nmasRowAnswer, nmasEntryAnswer, noRowAnswer};
+ghost use Rattle.nmas_reading.specs.Inner.Sized.{Sized, RowSized};
 use balance::Balanced;
 use dispatch::Cost;
+use nmas::Row;
+use nmas_reading::RowRead;
+use nmas_reading::RowsRead;
+use numbers::sign;
 use reading::HeadingRead;
 use reading::LineRead;
 use sections::Verdict;
@@ -182,5 +187,115 @@ pub fn cost(made: Cost) -> CostAnswer
             place: place as u64,
             amount: 0, // nothing came of the rows
         },
+    }
+}
+
+// `fervolatro_nmas_size`: refusal 0 is success, and then rows is how many rows the text has.
+#[repr(C)]
+pub struct NmasSizeAnswer {
+    pub refusal: u64,
+    pub place: u64,
+    pub rows: u64,
+}
+
+pub fn nmas_size(read: RowsRead) -> NmasSizeAnswer
+    ensures { λ r. ⌜ r ≡ nmasSizeAnswer read ⌝ }
+{
+    match read {
+        RowsRead::Rows(rows) => NmasSizeAnswer {
+            refusal: 0,
+            place: 0,
+            rows: rows as u64,
+        },
+        RowsRead::Refused(number, place) => NmasSizeAnswer {
+            refusal: number as u64,
+            place: place as u64,
+            rows: 0, // those before the refused line are not told
+        },
+    }
+}
+
+// `fervolatro_nmas_entry`: refusal 0 is success, and then the other fields are the row's, with their signs.
+#[repr(C)]
+pub struct NmasEntryAnswer {
+    pub refusal: u64,
+    pub place: u64,
+    pub date: u64,
+    pub run: u64,
+    pub interval: u64,
+    pub account: u64,
+    pub contract: u64,
+    pub payment_type: u64,
+    pub region: u64,
+    pub factor: u64,
+    pub payment: u64,
+    pub recovery: i64,
+    pub own_ace: i64,
+    pub region_ace: i64,
+    pub own_asoe: i64,
+    pub region_asoe: i64,
+    pub by_ace: i64,
+    pub by_asoe: i64,
+}
+
+// Energies consumed, and what is recovered, are at most 0.
+fn nmas_row(r: Row) -> NmasEntryAnswer
+    requires { ⌜ Sized r ⌝ }
+    ensures { λ a. ⌜ a ≡ nmasRowAnswer r ⌝ }
+{
+    NmasEntryAnswer {
+        refusal: 0,
+        place: 0,
+        date: r.date,
+        run: r.run,
+        interval: r.interval,
+        account: r.account,
+        contract: r.contract,
+        payment_type: r.paymentType,
+        region: r.region,
+        factor: r.factor,
+        payment: r.payment,
+        recovery: sign::signed(true, r.recovery),
+        own_ace: sign::signed(true, r.ownAce),
+        region_ace: sign::signed(true, r.regionAce),
+        own_asoe: sign::signed(false, r.ownAsoe),
+        region_asoe: sign::signed(false, r.regionAsoe),
+        by_ace: sign::signed(true, r.byAce),
+        by_asoe: sign::signed(true, r.byAsoe),
+    }
+}
+
+fn no_row(number: u8, place: usize) -> NmasEntryAnswer
+    ensures { λ a. ⌜ a ≡ noRowAnswer number place ⌝ }
+{
+    NmasEntryAnswer {
+        refusal: number as u64,
+        place: place as u64,
+        date: 0,
+        run: 0,
+        interval: 0,
+        account: 0,
+        contract: 0,
+        payment_type: 0,
+        region: 0,
+        factor: 0,
+        payment: 0,
+        recovery: 0,
+        own_ace: 0,
+        region_ace: 0,
+        own_asoe: 0,
+        region_asoe: 0,
+        by_ace: 0,
+        by_asoe: 0,
+    }
+}
+
+pub fn nmas_entry(read: RowRead) -> NmasEntryAnswer
+    requires { ⌜ RowSized read ⌝ }
+    ensures { λ a. ⌜ a ≡ nmasEntryAnswer read ⌝ }
+{
+    match read {
+        RowRead::Row(r) => nmas_row(r),
+        RowRead::Refused(number, place) => no_row(number, place),
     }
 }

@@ -7,14 +7,18 @@ ghost use Rattle.reading.specs.Rewriting.{rewritten};
 ghost use Rattle.unpacking.specs.Unpacking.{unpacked};
 ghost use Rattle.book.specs.Table.{lockedFor};
 ghost use Rattle.settlement.specs.Settle.{outcome};
-ghost use Rattle.demands.specs.Demand1.{CheckAnswered, LengthAnswered, PoolAnswered, HeadingAnswered, EntryAnswered, CostAnswered, Gives, Answered, onAStatement, onRewriting};
+ghost use Rattle.nmas_file.specs.File.{fileOutcome};
+ghost use Rattle.demands.specs.Demand1.{CheckAnswered, LengthAnswered, PoolAnswered, HeadingAnswered, EntryAnswered, CostAnswered, NmasSizeAnswered, NmasEntryAnswered, Gives, Answered, onAStatement, onRewriting, onAFile};
 ghost use Rattle.demands.specs.Demand2.{NumbersAreTheGuides, StatementIsTheGuides, LinesAreTheLineCalls, PoolCloses};
+ghost use Rattle.demands.specs.File.{WrittenAndRead, ReadAndWritten};
 ghost use Rattle.demands.specs.Length.{AskedFirst, AsLongAsTheGuides};
 ghost use Rattle.demands.specs.Unread.{NoTestPayment};
 ghost use Rattle.demands.specs.Demand3.{Agree, AgreeButForCosts, Way, CostsMade, Same};
 use answers::CostAnswer;
 use answers::EntryAnswer;
 use answers::HeadingAnswer;
+use answers::NmasEntryAnswer;
+use answers::NmasSizeAnswer;
 use answers::PoolAnswer;
 use answers::VerdictAnswer;
 use answers::WrittenAnswer;
@@ -151,5 +155,49 @@ pub fn unread<'a>(
 {
     let first = fervolatro::fervolatro_statement(book, locked, account, buffer);
     let second = fervolatro::fervolatro_statement(book, beside, account, another);
+    Both { first, second }
+}
+
+pub fn nmas<'a>(
+    book: &'a [u8],
+    locked: &'a [u8],
+    account: u32,
+    payment_type: u64,
+    buffer: &mut [u8],
+) -> WrittenAnswer
+    ensures { λ r. ⌜ Answered onAFile (fileOutcome (now (book .entry)) (now (locked .entry)) account «payment_type») (now (buffer .entry)) r (now (buffer .exit)) ⌝ }
+    ensures { λ r. ⌜ (r .refusal ≡ 0 → WrittenAndRead (now (book .entry)) (now (locked .entry)) account «payment_type» r (now (buffer .exit))) ⌝ }
+{
+    fervolatro::fervolatro_nmas(book, locked, account, payment_type, buffer)
+}
+
+pub fn nmas_rows(text: &[u8]) -> NmasSizeAnswer
+    ensures { λ r. ⌜ NmasSizeAnswered r ⌝ }
+    ensures { λ r. ⌜ (r .refusal ≡ 0 → ReadAndWritten (now (text .entry)) r) ⌝ }
+{
+    fervolatro::fervolatro_nmas_rows(text)
+}
+
+pub fn nmas_row(text: &[u8], index: u64) -> NmasEntryAnswer
+    ensures { λ r. ⌜ NmasEntryAnswered r ⌝ }
+{
+    fervolatro::fervolatro_nmas_row(text, index)
+}
+
+// The files of one account from two books, each with a locked one.
+pub fn nmas_neighbours<'a>(
+    book: &'a [u8],
+    locked: &'a [u8],
+    other: &'a [u8],
+    beside: &'a [u8],
+    account: u32,
+    payment_type: u64,
+    buffer: &mut [u8],
+    another: &mut [u8],
+) -> Both
+    ensures { λ r. ⌜ (Agree (now (book .entry)) (now (locked .entry)) (now (other .entry)) (now (beside .entry)) account → now (buffer .entry) ≡ now (another .entry) → Same (r .first) (r .second) (now (buffer .exit)) (now (another .exit))) ⌝ }
+{
+    let first = fervolatro::fervolatro_nmas(book, locked, account, payment_type, buffer);
+    let second = fervolatro::fervolatro_nmas(other, beside, account, payment_type, another);
     Both { first, second }
 }

@@ -26,17 +26,24 @@ use Rattle.reading.specs.declared.LineRead.the-variants as line
 use Rattle.reading.specs.Rewriting.{rewritten}
 use Rattle.unpacking.specs.Unpacking.{allFields, unpacked}
 use Rattle.settlement.specs.Settle.{outcome}
+use Rattle.ground.specs.Nth.{Nth, nth}
+use Rattle.ground.specs.Nth as numbered
+use Rattle.nmas.specs.declared.Row.{Row}
+use Rattle.nmas_reading.specs.Reading.{TextRead, all, part, rowsRead, numberedRow, rowRead}
+use Rattle.nmas_file.specs.File.{fileOutcome}
 use Rattle.balance.specs.Pools.{Found, past, found, poolsIn, poolAt}
 use Rattle.balance.specs.Balance.{answerTo, balancesIn, balanceIf, balanceOf}
-use Rattle.answers.specs.Answers.{verdictAnswer, writtenAnswer, headingAnswer, entryAnswer, poolAnswer, costAnswer, Called}
+use Rattle.answers.specs.Answers.{verdictAnswer, writtenAnswer, headingAnswer, entryAnswer, poolAnswer, costAnswer, nmasSizeAnswer, nmasRowAnswer, noRowAnswer, nmasEntryAnswer, Called}
 use Rattle.answers.specs.declared.VerdictAnswer.{VerdictAnswer}
 use Rattle.answers.specs.declared.WrittenAnswer.{WrittenAnswer}
 use Rattle.answers.specs.declared.HeadingAnswer.{HeadingAnswer}
 use Rattle.answers.specs.declared.EntryAnswer.{EntryAnswer}
 use Rattle.answers.specs.declared.PoolAnswer.{PoolAnswer}
 use Rattle.answers.specs.declared.CostAnswer.{CostAnswer}
-use Rattle.demands.specs.Demand1.{onABook, onALength, onABalance, onAStatement, onRewriting, onDispatchRows, OneOf, Answered, written, short, refused, CheckAnswered, LengthAnswered, PoolAnswered, HeadingAnswered, EntryAnswered, CostAnswered, EveryInputIsAnswered}
-use Rattle.demands.proofs.Numbers.{Among, Within, verdict-numbers, rows-numbers, outcome-numbers, statement-call-numbers, statement-numbers, or-true}
+use Rattle.answers.specs.declared.NmasSizeAnswer.{NmasSizeAnswer}
+use Rattle.answers.specs.declared.NmasEntryAnswer.{NmasEntryAnswer}
+use Rattle.demands.specs.Demand1.{onABook, onALength, onABalance, onAStatement, onRewriting, onDispatchRows, onAFile, OneOf, Answered, written, short, refused, CheckAnswered, LengthAnswered, PoolAnswered, HeadingAnswered, EntryAnswered, CostAnswered, NmasSizeAnswered, NmasEntryAnswered, EveryInputIsAnswered}
+use Rattle.demands.proofs.Numbers.{Among, Within, verdict-numbers, rows-numbers, outcome-numbers, statement-call-numbers, statement-numbers, file-numbers, or-true}
 
 -- ---- the calls that write
 
@@ -88,6 +95,23 @@ unfolding costAnswer costIf
 costed Accepted h amount r a = inl (rw a (refl, refl))
 costed (Refused number place) h amount r a = inr (rw a (h number place refl, refl))
 
+-- ---- a reconciliation file that is read
+
+rows-answered : {s : List ℕ} (t : TextRead s) (r : NmasSizeAnswer) → r ≡ nmasSizeAnswer (rowsRead t) → NmasSizeAnswered r
+unfolding nmasSizeAnswer rowsRead has
+rows-answered (all rs t) r a = inl (rw a (refl, refl))
+rows-answered (part rs t) r a = inr (rw a (refl, refl))
+
+numbered-answered : (n : Nth Row) (r : NmasEntryAnswer) → r ≡ nmasEntryAnswer (numberedRow n) → NmasEntryAnswered r
+unfolding nmasEntryAnswer nmasRowAnswer noRowAnswer numberedRow has
+numbered-answered (numbered.found x) r a = inl (rw a (refl, refl))
+numbered-answered (numbered.past k) r a = inr (rw a (refl, refl))
+
+row-answered : {s : List ℕ} (t : TextRead s) (index : ℕ) (r : NmasEntryAnswer) → r ≡ nmasEntryAnswer (rowRead t index) → NmasEntryAnswered r
+unfolding nmasEntryAnswer noRowAnswer rowRead has
+row-answered (all rs t) index r a = numbered-answered (nth rs index) r a
+row-answered (part rs t) index r a = inr (rw a (refl, refl))
+
 -- ---- the demand
 
 pub every-input-is-answered : EveryInputIsAnswered
@@ -104,4 +128,7 @@ every-input-is-answered =
       lines = λ s. called onRewriting (unpacked s) (statement-numbers s (allFields (linesIn s (headingAt s .lines)))) refl;
       payment = λ s service. costed (rowsVerdict s) (rows-numbers s) _;
       baseCost = λ s id service. costed (rowsVerdict s) (rows-numbers s) _;
+      file = λ b t account paymentType. called onAFile (fileOutcome b t account paymentType) (file-numbers b t account paymentType) refl;
+      rows = λ s r c. rows-answered (c .reading) r (c .answer);
+      row = λ s index r c. row-answered (c .reading) index r (c .answer);
     }

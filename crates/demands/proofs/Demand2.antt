@@ -8,7 +8,6 @@ use native.Mathlib.Omega.{arith}
 use lib.ListN.{length}
 use borrow.Author.Tests.{lt-leb}
 use Rattle.ground.specs.Bytes.{AreBytes}
-use Rattle.ground.proofs.Put.{put-there}
 use Rattle.sections.proofs.First.{first-each}
 use Rattle.sections.proofs.Refusal.{record-held}
 use Rattle.sections.specs.declared.Verdict.{Verdict}
@@ -52,29 +51,13 @@ use Rattle.answers.specs.declared.PoolAnswer.{PoolAnswer}
 use Rattle.demands.specs.Demand1.{OneOf, Gives, Answered, written, short, refused, onAStatement, onRewriting}
 use Rattle.demands.specs.Demand2.{NumbersAreTheGuides, linesByTheGuide, guideHeading, guideStatement, accountsOfBoth, numbered, front, StatementIsTheGuides, fieldsAt, LinesAreTheLineCalls, PoolCloses, EveryLineIsTheGuides}
 use Rattle.demands.proofs.Numbers.{verdict-numbers}
+use Rattle.demands.proofs.Given.{Given, given, front-is}
 use Rattle.demands.proofs.Numbered.{line-numbered}
 use Rattle.demands.proofs.LockedBytes.{locked-bytes}
 use Rattle.demands.proofs.Demand1.{every-input-is-answered}
 
--- ---- a call that is not refused
-
 never : {A : Type 0} → _≡_ {A = Bool} false true → A
 never e = absurd (zero-one cc)
-
--- what it gives
-record Given (o : Outcome) (l : List ℕ) (r : WrittenAnswer) (x : List ℕ) : Type 0 where
-  bytes : List ℕ
-  is : o ≡ gives bytes
-  gives-them : Gives bytes l r x
-
-given : (numbers : List ℕ) (o : Outcome) (l : List ℕ) (r : WrittenAnswer) (x : List ℕ) → (OneOf numbers 0 → ⊥) → Answered numbers o l r x → r .refusal ≡ 0 → Given o l r x
-given numbers o l r x none (written xs e g) z = record { bytes = xs; is = e; gives-them = g }
-given numbers o l r x none (short xs e h k g) z = absurd (omega (arith, sym (ap (λ (w : WrittenAnswer). w .refusal) (g .answer)) ∙ z))
-given numbers o l r x none (refused number place e h g) z = absurd (none (rw (sym (ap (λ (w : WrittenAnswer). w .refusal) (g .answer)) ∙ z) at h))
-
--- what stands at the front
-front-is : (xs l : List ℕ) (r : WrittenAnswer) (x : List ℕ) → Gives xs l r x → front r x ≡ xs
-front-is xs l r x g = rw (g .answer, g .bytes) (put-there l 0 xs (omega (arith, g .room)))
 
 -- ---- the book
 

@@ -17,9 +17,10 @@ use Rattle.accounts.specs.Rows.{keep, none}
 use Rattle.accounts.specs.Account.{Public, publicOf, rowsOfAccount, lockedOf}
 use Rattle.accounts.proofs.Lists.{some-rows}
 use Rattle.settlement.specs.Settle.{outcome}
+use Rattle.nmas_file.specs.File.{fileOutcome}
 use Rattle.answers.specs.declared.WrittenAnswer.{WrittenAnswer}
-use Rattle.demands.specs.Demand1.{LengthCall}
-use Rattle.demands.specs.Demand3.{LockedAgree, Agree, NoNeighboursFigure, costless, costlessPublic, AgreeButForCosts, costsIn, Way, asPayment, asBaseCost, madeFrom, CostsArePublic}
+use Rattle.demands.specs.Demand1.{LengthCall, FileCall}
+use Rattle.demands.specs.Demand3.{LockedAgree, Agree, Same, NoNeighboursFigure, costless, costlessPublic, AgreeButForCosts, costsIn, Way, asPayment, asBaseCost, madeFrom, CostsArePublic}
 
 -- ---- the locked books
 
@@ -57,6 +58,17 @@ same-outcome b t c u account h = rw (h .first, h .second, h .public, h .own, sam
 same-length : (b t c u : List ℕ) (account : ℕ) (r s : WrittenAnswer) → Agree b t c u account → LengthCall b t account r → LengthCall c u account s → r ≡ s
 same-length b t c u account r s h p q = p ∙ rw (same-outcome b t c u account h) (sym q)
 
+-- and so is that of the file, whose rows rest on the same parts
+same-file : (b t c u : List ℕ) (account paymentType : ℕ) → Agree b t c u account → fileOutcome b t account paymentType ≡ fileOutcome c u account paymentType
+unfolding fileOutcome
+same-file b t c u account paymentType h =
+    rw (same-outcome b t c u account h, h .public, h .own, same-locked b t c u account (h .public) (h .own) (h .locked))
+
+same-written : (b t c u : List ℕ) (account paymentType : ℕ) (l : List ℕ) (r s : WrittenAnswer) (x y : List ℕ) → Agree b t c u account → FileCall b t account paymentType l r x → FileCall c u account paymentType l s y → Same r s x y
+same-written b t c u account paymentType l r s x y h p q =
+    let e = same-file b t c u account paymentType h in
+    record { answer = p .answer ∙ rw e (sym (q .answer)); bytes = p .left ∙ rw e (sym (q .left)) }
+
 pub no-neighbours-figure : NoNeighboursFigure
 no-neighbours-figure =
     record {
@@ -64,6 +76,7 @@ no-neighbours-figure =
           let e = same-outcome b t c u account h in
           record { answer = p .answer ∙ rw e (sym (q .answer)); bytes = p .left ∙ rw e (sym (q .left)) };
       length = λ b t c u account r s h p q. same-length b t c u account r s h p q;
+      file = λ b t c u account paymentType l r s x y h p q. same-written b t c u account paymentType l r s x y h p q;
     }
 
 -- ---- costs

@@ -1,5 +1,6 @@
 pub mod Numbers
 pub mod Demand1
+pub mod Given
 pub mod Numbered
 pub mod LockedBytes
 pub mod Demand2
@@ -8,3 +9,4 @@ pub mod Unread
 pub mod Length
 pub mod Example
 pub mod Strength
+pub mod File

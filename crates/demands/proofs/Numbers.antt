@@ -3,7 +3,7 @@ use Prim.Native.Nat.{ℕ}
 use mathlib.Core.Path.{_≡_, refl}
 use mathlib.Core.Bool.{Bool, true, false, cond, _||_}
 use mathlib.Core.List.{List, [], _∷_}
-use lib.Dec.{eqb}
+use lib.Dec.{eqb, leb}
 use Rattle.ground.specs.Inner.Each.{Each}
 use Rattle.sections.specs.Refusal.{unless, atRecord, earlier, firstOf}
 use Rattle.sections.specs.declared.Checked.{Checked}
@@ -21,7 +21,9 @@ use Rattle.lines.specs.Limit.{anyOver}
 use Rattle.parsing.specs.Parsing.{isStatement}
 use Rattle.reading.specs.Calls.{ifStatement}
 use Rattle.settlement.specs.Settle.{settled, linesFor, outcomeIf, outcome}
-use Rattle.demands.specs.Demand1.{onABook, onALength, onAStatement, onRewriting, onDispatchRows, OneOf}
+use Rattle.nmas.specs.Rows.{textOf}
+use Rattle.nmas_file.specs.File.{fileRowsFor, instead, fileOutcome}
+use Rattle.demands.specs.Demand1.{onABook, onALength, onAStatement, onRewriting, onDispatchRows, onAFile, OneOf}
 
 -- a verdict, and an outcome, that refuses only by one of the numbers
 abbrev pub Among : List ℕ → Verdict → Type 0
@@ -160,3 +162,16 @@ statement-numbers s xs = by (isStatement s)
     by : (t : Bool) → Within onRewriting (cond t (gives xs) (refuses 14 0))
     by true = within-gives onRewriting xs
     by false = within-one onRewriting 14 0 refl
+
+-- 15, and those of the statement
+pub file-numbers : (b t : List ℕ) (account paymentType : ℕ) → Within onAFile (fileOutcome b t account paymentType)
+unfolding fileOutcome instead has
+file-numbers b t account paymentType = by (leb 3 paymentType)
+  where
+    also : (xs : List ℕ) (o : Outcome) → Within onAStatement o → Within onAFile (instead o xs)
+    also xs (refuses number place) h = λ n p e. or-true (eqb 15 n) _ (h n p e)
+    also xs (gives ys) h = within-gives onAFile xs
+
+    by : (t₀ : Bool) → Within onAFile (cond t₀ (refuses 15 0) (instead (outcome b t account) (textOf (fileRowsFor (bookOf b) (bookOf (lockedFor b t)) account paymentType))))
+    by true = within-one onAFile 15 0 refl
+    by false = also _ (outcome b t account) (statement-call-numbers b t account)

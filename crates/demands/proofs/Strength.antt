@@ -23,15 +23,21 @@ use Rattle.statement.specs.Lent.{Outcome, lengthFor}
 use Rattle.reading.specs.Calls.{headingRead, lineRead}
 use Rattle.settlement.specs.Settle.{outcome}
 use Rattle.guide.specs.Guide.{guideLines}
+use Rattle.ground.specs.Nth.{nth}
+use Rattle.nmas_reading.specs.Reading.{numberedRow}
+use Rattle.nmas_file.specs.File.{fileRowsFor, fileOutcome}
 use Rattle.balance.specs.Balance.{balanceOf}
-use Rattle.answers.specs.Answers.{verdictAnswer, writtenAnswer, headingAnswer, entryAnswer, poolAnswer, Called}
+use Rattle.answers.specs.Answers.{verdictAnswer, writtenAnswer, headingAnswer, entryAnswer, poolAnswer, nmasEntryAnswer, Called, EntryCalled}
 use Rattle.answers.specs.declared.WrittenAnswer.{WrittenAnswer}
 use Rattle.answers.specs.declared.EntryAnswer.{EntryAnswer}
 use Rattle.answers.specs.declared.PoolAnswer.{PoolAnswer}
 use Rattle.answers.specs.declared.CostAnswer.{CostAnswer}
-use Rattle.demands.specs.Demand1.{onABook, onALength, onDispatchRows, OneOf, Answered, written, short, refused, LengthAnswered, CostAnswered}
+use Rattle.answers.specs.declared.NmasSizeAnswer.{NmasSizeAnswer}
+use Rattle.answers.specs.declared.NmasEntryAnswer.{NmasEntryAnswer}
+use Rattle.demands.specs.Demand1.{onABook, onALength, onDispatchRows, onRows, OneOf, Answered, written, short, refused, LengthAnswered, CostAnswered, NmasSizeAnswered}
 use Rattle.demands.specs.Demand2.{front, LinesAreTheLineCalls, PoolCloses}
 use Rattle.demands.specs.Demand3.{LockedAgree, costlessPublic, Way, CostsMade}
+use Rattle.demands.specs.File.{WrittenAndRead}
 use Rattle.demands.specs.Length.{AskedFirst}
 use Rattle.demands.proofs.Length.{length-is-the-statements}
 use Rattle.demands.proofs.Demand3.{no-neighbours-figure, costs-are-public}
@@ -118,6 +124,14 @@ pub refused-without-amount : (r : CostAnswer) → CostAnswered r → (r .refusal
 refused-without-amount r (inl h) z = absurd (z (h .0))
 refused-without-amount r (inr h) z = (rows-number (r .refusal) (h .0), ap (λ (a : CostAnswer). a .amount) (h .1))
 
+-- a text is refused by 19, and then no rows are told
+pub text-number : (n : ℕ) → OneOf onRows n → n ≡ 19
+text-number = one-of (λ n. n ≡ 19) onRows (refl, tt)
+
+pub refused-without-rows : (r : NmasSizeAnswer) → NmasSizeAnswered r → (r .refusal ≡ 0 → ⊥) → (r .refusal ≡ 19) × (r .rows ≡ 0)
+refused-without-rows r (inl h) z = absurd (z (h .0))
+refused-without-rows r (inr h) z = (text-number (r .refusal) (h .0), ap (λ (a : NmasSizeAnswer). a .rows) (h .1))
+
 -- ---- the length, asked for before writing
 
 module _ (b t : List ℕ) (account : ℕ) (l : List ℕ) (r s : WrittenAnswer) (x : List ℕ) (p : r ≡ writtenAnswer (lengthFor (outcome b t account))) (q : Called (outcome b t account) l s x) where
@@ -158,6 +172,10 @@ within-half-units b t number r c = c .closes
 pub each-amount : (s : List ℕ) (r : WrittenAnswer) (x : List ℕ) → LinesAreTheLineCalls s r x → (i : ℕ) → i < headingAnswer (headingRead s) .lines → i64At (front r x) (i * 40 + 32) ≡ entryAnswer (lineRead s i) .amount
 each-amount s r x c i h = ap (λ (e : EntryAnswer). e .amount) (c .lines i h)
 
+-- every row of a file that was written is read
+pub each-row-is-read : (b t : List ℕ) (account paymentType : ℕ) (r : WrittenAnswer) (x : List ℕ) → WrittenAndRead b t account paymentType r x → (index : ℕ) (q : NmasEntryAnswer) → EntryCalled (front r x) index q → q ≡ nmasEntryAnswer (numberedRow (nth (fileRowsFor (bookOf b) (bookOf (lockedFor b t)) account paymentType) index))
+each-row-is-read b t account paymentType r x c index q e = c .row index q e
+
 -- ---- demand 3
 
 -- the two pairs of books of the example
@@ -167,6 +185,10 @@ the-example l r s x y p q = let same = no-neighbours-figure .same bookA lockedA 
 -- and their lengths
 pub the-example-s-lengths : (r s : WrittenAnswer) → r ≡ writtenAnswer (lengthFor (outcome bookA lockedA 7)) → s ≡ writtenAnswer (lengthFor (outcome bookB lockedB 7)) → r ≡ s
 the-example-s-lengths r s p q = no-neighbours-figure .length bookA lockedA bookB lockedB 7 r s two-pairs-agree p q
+
+-- and their files
+pub the-example-s-files : (paymentType : ℕ) (l : List ℕ) (r s : WrittenAnswer) (x y : List ℕ) → Called (fileOutcome bookA lockedA 7 paymentType) l r x → Called (fileOutcome bookB lockedB 7 paymentType) l s y → (r ≡ s) × (x ≡ y)
+the-example-s-files paymentType l r s x y p q = let same = no-neighbours-figure .file bookA lockedA bookB lockedB 7 paymentType l r s x y two-pairs-agree p q in (same .answer, same .bytes)
 
 -- books that agree in all but their costs, and have these from the same dispatch rows; without a contract of kind 2, whatever is lent as the locked book
 pub costs-from-rows : (rows : List ℕ) (way : ℕ → Way) (b t c u : List ℕ) (account : ℕ) (l : List ℕ) (r s : WrittenAnswer) (x y : List ℕ) → verdict b t ≡ Accepted → verdict c u ≡ Accepted → costlessPublic (publicOf (bookOf b)) ≡ costlessPublic (publicOf (bookOf c)) → rowsOfAccount (bookOf b) account ≡ rowsOfAccount (bookOf c) account → readsLocked (bookOf b .contract) (headerOf b .contracts) ≡ false → CostsMade rows way b → CostsMade rows way c → Called (outcome b t account) l r x → Called (outcome c u account) l s y → (r ≡ s) × (x ≡ y)
@@ -189,3 +211,6 @@ module _ (b t u : List ℕ) (none : readsLocked (bookOf b .contract) (headerOf b
 
   pub balance-without-tests : (number : ℕ) → poolAnswer (balanceOf b t number) ≡ poolAnswer (balanceOf b u number)
   balance-without-tests number = locked-only-where-read .balance b t u none number _ _ refl refl
+
+  pub file-without-tests : (account paymentType : ℕ) (l : List ℕ) (r s : WrittenAnswer) (x y : List ℕ) → Called (fileOutcome b t account paymentType) l r x → Called (fileOutcome b u account paymentType) l s y → (r ≡ s) × (x ≡ y)
+  file-without-tests account paymentType l r s x y p q = let same = locked-only-where-read .file b t u none account paymentType l r s x y p q in (same .answer, same .bytes)

@@ -11,6 +11,7 @@ use Rattle.book.specs.Book.{bookOf}
 use Rattle.book.specs.Table.{check17, check18, locks, lockedFor, verdict}
 use Rattle.settlement.specs.Settle.{outcome}
 use Rattle.balance.specs.Balance.{balanceOf}
+use Rattle.nmas_file.specs.File.{fileOutcome}
 use Rattle.answers.specs.Answers.{poolAnswer}
 use Rattle.answers.specs.declared.PoolAnswer.{PoolAnswer}
 use Rattle.demands.specs.Unread.{NoTestPayment, LockedOnlyWhereRead}
@@ -37,6 +38,10 @@ module _ (b t u : List ℕ) (n : NoTestPayment b) where
   unfolding outcome
   same-outcome account = rw (same-verdict, same-book)
 
+  same-file : (account paymentType : ℕ) → fileOutcome b t account paymentType ≡ fileOutcome b u account paymentType
+  unfolding fileOutcome
+  same-file account paymentType = rw (same-outcome account, same-book)
+
   same-balance : (number : ℕ) → balanceOf b t number ≡ balanceOf b u number
   unfolding balanceOf
   same-balance number = rw (same-verdict, same-book)
@@ -53,4 +58,7 @@ locked-only-where-read =
           let e = same-outcome b t u n account in
           record { answer = p .answer ∙ rw e (sym (q .answer)); bytes = p .left ∙ rw e (sym (q .left)) };
       balance = λ b t u n number r s p q. same-pool b t u n number r s p q;
+      file = λ b t u n account paymentType l r s x y p q.
+          let e = same-file b t u n account paymentType in
+          record { answer = p .answer ∙ rw e (sym (q .answer)); bytes = p .left ∙ rw e (sym (q .left)) };
     }

@@ -19,13 +19,16 @@ use Rattle.reading.specs.Rewriting.{rewritten}
 use Rattle.unpacking.specs.Unpacking.{unpacked}
 use Rattle.settlement.specs.Settle.{outcome}
 use Rattle.balance.specs.Balance.{balanceOf}
-use Rattle.answers.specs.Answers.{verdictAnswer, writtenAnswer, headingAnswer, entryAnswer, poolAnswer, costAnswer, Called}
+use Rattle.nmas_file.specs.File.{fileOutcome}
+use Rattle.answers.specs.Answers.{verdictAnswer, writtenAnswer, headingAnswer, entryAnswer, poolAnswer, costAnswer, noRowAnswer, Called, SizeCalled, EntryCalled}
 use Rattle.answers.specs.declared.VerdictAnswer.{VerdictAnswer}
 use Rattle.answers.specs.declared.WrittenAnswer.{WrittenAnswer}
 use Rattle.answers.specs.declared.HeadingAnswer.{HeadingAnswer}
 use Rattle.answers.specs.declared.EntryAnswer.{EntryAnswer}
 use Rattle.answers.specs.declared.PoolAnswer.{PoolAnswer}
 use Rattle.answers.specs.declared.CostAnswer.{CostAnswer}
+use Rattle.answers.specs.declared.NmasSizeAnswer.{NmasSizeAnswer}
+use Rattle.answers.specs.declared.NmasEntryAnswer.{NmasEntryAnswer}
 
 -- ---- the numbers of 01's table that each call can give
 
@@ -58,6 +61,17 @@ onAHeader = 14 ∷ []
 -- 02, Req 01: "Refusals: 16, the only one of this call"
 abbrev pub onDispatchRows : List ℕ
 onDispatchRows = 16 ∷ []
+
+-- 02, Req 05: "writing gives those of the statement call", and 15 for a payment type that is none of the three
+abbrev pub onAFile : List ℕ
+onAFile = 15 ∷ onAStatement
+
+-- "reading gives 19", and asking for one row, numbered from 0, then 15
+abbrev pub onRows : List ℕ
+onRows = 19 ∷ []
+
+abbrev pub onARow : List ℕ
+onARow = 15 ∷ onRows
 
 abbrev pub OneOf : List ℕ → ℕ → Type 0
 OneOf numbers n = has n numbers ≡ true
@@ -113,6 +127,14 @@ CostAnswered r =
     ((r .refusal ≡ 0) × (r .place ≡ 0))
     ⊎ (OneOf onDispatchRows (r .refusal) × (r ≡ record { refusal = r .refusal; place = r .place; amount = 0 }))
 
+abbrev pub NmasSizeAnswered : NmasSizeAnswer → Type 0
+NmasSizeAnswered r =
+    ((r .refusal ≡ 0) × (r .place ≡ 0))
+    ⊎ (OneOf onRows (r .refusal) × (r ≡ record { refusal = r .refusal; place = r .place; rows = 0 }))
+
+abbrev pub NmasEntryAnswered : NmasEntryAnswer → Type 0
+NmasEntryAnswered r = ((r .refusal ≡ 0) × (r .place ≡ 0)) ⊎ (OneOf onARow (r .refusal) × (r ≡ noRowAnswer (r .refusal) (r .place)))
+
 -- ---- what the writing calls promise, and the one that is asked before
 
 -- the length call on book b, with these bytes lent as the locked book: r is what it answers
@@ -131,6 +153,10 @@ RewriteCall s l r x = Called (rewritten s) l r x
 abbrev pub LinesCall : List ℕ → List ℕ → WrittenAnswer → List ℕ → Type 0
 LinesCall s l r x = Called (unpacked s) l r x
 
+-- the call that writes the reconciliation file, likewise
+abbrev pub FileCall : List ℕ → List ℕ → ℕ → ℕ → List ℕ → WrittenAnswer → List ℕ → Type 0
+FileCall b locked account paymentType l r x = Called (fileOutcome b locked account paymentType) l r x
+
 -- ---- the demand, of what each call of the library promises, for every input
 
 pub record EveryInputIsAnswered : Type 0 where
@@ -146,3 +172,7 @@ pub record EveryInputIsAnswered : Type 0 where
   pub lines : (s l : List ℕ) (r : WrittenAnswer) (x : List ℕ) → LinesCall s l r x → Answered onRewriting (unpacked s) l r x
   pub payment : (s : List ℕ) (service : ℕ) (r : CostAnswer) → r ≡ costAnswer (payment s service) → CostAnswered r
   pub baseCost : (s : List ℕ) (id service : ℕ) (r : CostAnswer) → r ≡ costAnswer (baseCost s id service) → CostAnswered r
+  pub file : (b locked : List ℕ) (account paymentType : ℕ) (l : List ℕ) (r : WrittenAnswer) (x : List ℕ) → FileCall b locked account paymentType l r x
+      → Answered onAFile (fileOutcome b locked account paymentType) l r x
+  pub rows : (s : List ℕ) (r : NmasSizeAnswer) → SizeCalled s r → NmasSizeAnswered r
+  pub row : (s : List ℕ) (index : ℕ) (r : NmasEntryAnswer) → EntryCalled s index r → NmasEntryAnswered r

@@ -17,7 +17,7 @@ use Rattle.book.specs.Book.{bookOf}
 use Rattle.book.specs.Table.{verdict}
 use Rattle.accounts.specs.Account.{Public, publicOf, rowsOfAccount, lockedOf}
 use Rattle.answers.specs.declared.WrittenAnswer.{WrittenAnswer}
-use Rattle.demands.specs.Demand1.{LengthCall, StatementCall}
+use Rattle.demands.specs.Demand1.{LengthCall, StatementCall, FileCall}
 
 -- what must agree of two locked books, t and u, beside a book b: 02, Req 04, "Demand 3 adds the locked region totals and the account's energy rows
 -- and unit rows in the locked book to what must agree", and nothing else of it. Where b has no contract of kind 2 they need not agree in anything
@@ -38,7 +38,7 @@ pub record Same (r s : WrittenAnswer) (x y : List ℕ) : Type 0 where
   pub answer : r ≡ s
   pub bytes : x ≡ y
 
--- the demand, of what the statement call and the length call promise: r and x are what a call on the first book answers and leaves in a buffer that held l, s
+-- the demand, of what the statement call, the length call and the call that writes the file promise: r and x are what a call on the first book answers and leaves in a buffer that held l, s
 -- and y what a call on the second does
 pub record NoNeighboursFigure : Type 0 where
   pub same : (b t c u : List ℕ) (account : ℕ) (l : List ℕ) (r s : WrittenAnswer) (x y : List ℕ) → Agree b t c u account
@@ -46,6 +46,9 @@ pub record NoNeighboursFigure : Type 0 where
   -- 02, Req 02: "Demand 3 covers the length": the same length, and the same refusals to tell it
   pub length : (b t c u : List ℕ) (account : ℕ) (r s : WrittenAnswer) → Agree b t c u account → LengthCall b t account r → LengthCall c u account s
       → r ≡ s
+  -- 02, Req 05: the same file, and the same refusals to write it
+  pub file : (b t c u : List ℕ) (account paymentType : ℕ) (l : List ℕ) (r s : WrittenAnswer) (x y : List ℕ) → Agree b t c u account
+      → FileCall b t account paymentType l r x → FileCall c u account paymentType l s y → Same r s x y
 
 -- ---- costs. 02, Req 01: "Demands 2 and 3 read costs as public whichever way they came." A constraint's cost is one of its fields, and so it is
 -- ---- part of the public part already; a statement depends on it through that field and on nothing that it was made from

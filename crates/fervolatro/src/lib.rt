@@ -8,10 +8,13 @@ ghost use Rattle.unpacking.specs.Unpacking.{unpacked};
 ghost use Rattle.settlement.specs.Settle.{outcome};
 ghost use Rattle.balance.specs.Balance.{balanceOf};
 ghost use Rattle.dispatch.specs.Dispatch.{payment, baseCost};
-ghost use Rattle.answers.specs.Answers.{verdictAnswer, writtenAnswer, headingAnswer, entryAnswer, poolAnswer, costAnswer, Called};
+ghost use Rattle.nmas_file.specs.File.{fileOutcome};
+ghost use Rattle.answers.specs.Answers.{verdictAnswer, writtenAnswer, headingAnswer, entryAnswer, poolAnswer, costAnswer, Called, SizeCalled, EntryCalled};
 use answers::CostAnswer;
 use answers::EntryAnswer;
 use answers::HeadingAnswer;
+use answers::NmasEntryAnswer;
+use answers::NmasSizeAnswer;
 use answers::PoolAnswer;
 use answers::VerdictAnswer;
 use answers::WrittenAnswer;
@@ -108,4 +111,34 @@ pub extern "C" fn fervolatro_base_cost(rows: &[u8], id: u32, service: u64) -> Co
     ensures { λ r. ⌜ r ≡ costAnswer (baseCost (now (rows .entry)) id service) ⌝ }
 {
     answers::cost(dispatch::base_cost(rows, id, service))
+}
+
+// The reconciliation file of an account, for a payment type of 0 to 2, written at the front of the buffer, or the refusal that leaves every byte of it.
+#[no_mangle]
+pub extern "C" fn fervolatro_nmas<'a>(
+    book: &'a [u8],
+    locked: &'a [u8],
+    account: u32,
+    payment_type: u64,
+    buffer: &mut [u8],
+) -> WrittenAnswer
+    ensures { λ r. ⌜ Called (fileOutcome (now (book .entry)) (now (locked .entry)) account «payment_type») (now (buffer .entry)) r (now (buffer .exit)) ⌝ }
+{
+    answers::written(nmas_file::file(book, locked, account, payment_type, buffer))
+}
+
+// How many rows a reconciliation file has.
+#[no_mangle]
+pub extern "C" fn fervolatro_nmas_rows(text: &[u8]) -> NmasSizeAnswer
+    ensures { λ r. ⌜ SizeCalled (now (text .entry)) r ⌝ }
+{
+    answers::nmas_size(nmas_reading::rows(text))
+}
+
+// One row of a reconciliation file, by its number from 0.
+#[no_mangle]
+pub extern "C" fn fervolatro_nmas_row(text: &[u8], index: u64) -> NmasEntryAnswer
+    ensures { λ r. ⌜ EntryCalled (now (text .entry)) index r ⌝ }
+{
+    answers::nmas_entry(nmas_reading::row(text, index))
 }

@@ -1,11 +1,12 @@
-// Services, regions and a constraint's mode: what the numbers of a record stand for.
-// Raise or lower, the energy that a cost is shared by, the region's bit and the mode's data are asked here and nowhere else.
+// Services, regions and a constraint's mode: what the numbers of a record stand for, and the words of the market's papers.
+// Raise or lower, the energy that a cost is shared by, the region's bit and name and the mode's data are asked here and nowhere else.
 ghost use mathlib.Core.Path.{_≡_};
 ghost use mathlib.Core.List.{_∷_};
 ghost use Prim.Native.Nat.{_-_, _^_, _<_};
 ghost use lib.ListN.{length};
 ghost use Rattle.market.specs.Kinds.{serviceNumbers, regionNumbers, isService, raises, regulates, basisOf, picked, bitSet, modeWith};
 ghost use Rattle.market.specs.Inner.Masks.{regionsIn};
+ghost use Rattle.market.specs.Words.{Has, regionName, paymentTypeName, restartName};
 
 // A market frequency service, by its number.
 pub struct Service {
@@ -114,6 +115,12 @@ impl Basis {
     }
 }
 
+// A word of the market's papers: the first `count` of its letters.
+pub struct Word {
+    pub letters: [u8; 12],
+    pub count: usize,
+}
+
 // A region of the market, by its number.
 pub struct Region {
     pub number: u8,
@@ -149,6 +156,35 @@ impl Region {
             Self::TAS1.number,
             Self::VIC1.number,
         ]
+    }
+
+    pub fn name(self) -> Word
+        requires { ⌜ self .number < 5 ⌝ }
+        ensures { λ w. ⌜ Has (regionName (self .number)) w ⌝ }
+    {
+        let number = self.number;
+        match number {
+            0 => Word {
+                letters: *b"NSW1\0\0\0\0\0\0\0\0",
+                count: 4,
+            },
+            1 => Word {
+                letters: *b"QLD1\0\0\0\0\0\0\0\0",
+                count: 4,
+            },
+            2 => Word {
+                letters: *b"SA1\0\0\0\0\0\0\0\0\0",
+                count: 3,
+            },
+            3 => Word {
+                letters: *b"TAS1\0\0\0\0\0\0\0\0",
+                count: 4,
+            },
+            _ => Word {
+                letters: *b"VIC1\0\0\0\0\0\0\0\0",
+                count: 4,
+            },
+        }
     }
 
     // Whether the region's bit is set in a constraint's regions.
@@ -192,6 +228,56 @@ impl Region {
 pub struct Step {
     pub region: Region,
     pub rest: u8,
+}
+
+// What a restart contract's payment is for, by its number.
+pub struct PaymentType {
+    pub number: u8,
+}
+
+impl PaymentType {
+    pub const AVAILABILITY: u8 = 0;
+
+    pub const ENABLEMENT: u8 = 1;
+
+    pub const COMPENSATION: u8 = 2;
+
+    pub fn of(number: u8) -> PaymentType
+        ensures { λ r. ⌜ r .number ≡ number ⌝ }
+    {
+        PaymentType { number }
+    }
+
+    pub fn name(self) -> Word
+        requires { ⌜ self .number < 3 ⌝ }
+        ensures { λ w. ⌜ Has (paymentTypeName (self .number)) w ⌝ }
+    {
+        let number = self.number;
+        match number {
+            Self::AVAILABILITY => Word {
+                letters: *b"AVAILABILITY",
+                count: 12,
+            },
+            Self::ENABLEMENT => Word {
+                letters: *b"ENABLEMENT\0\0",
+                count: 10,
+            },
+            _ => Word {
+                letters: *b"COMPENSATION",
+                count: 12,
+            },
+        }
+    }
+}
+
+// The service that restart contracts are for.
+pub fn restart() -> Word
+    ensures { λ w. ⌜ Has restartName w ⌝ }
+{
+    Word {
+        letters: *b"RESTART\0\0\0\0\0",
+        count: 7,
+    }
 }
 
 // How a constraint's cost is shared. Only a factored one has a price, a response and a usage.

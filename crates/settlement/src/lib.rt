@@ -36,7 +36,7 @@ fn is_known(units: &[u8], m: usize, held: bool, account: u32) -> bool
 }
 
 // What the account has by the energy rows of a book.
-fn held_by(book: &[u8], h: Header, account: u32) -> Held
+pub fn held_by(book: &[u8], h: Header, account: u32) -> Held
     requires { ⌜ Laid (now book) h ⌝ }
     requires { ⌜ Sound (bookIn (now book) h) ⌝ }
     ensures { λ x. ⌜ HeldIs (bookIn (now (book .entry)) h .energy) (h .energies) account x ⌝ }
@@ -97,7 +97,7 @@ fn own_in_both(book: &[u8], h: Header, held: Held, locked: &[u8], account: u32) 
 }
 
 // The length of the statement of an accepted book: 11, then 12, then the lines counted. None of them needs a buffer.
-fn sized(book: &[u8], h: Header, held: Held, locked: &[u8], account: u32) -> Written
+pub fn sized(book: &[u8], h: Header, held: Held, locked: &[u8], account: u32) -> Written
     requires { ⌜ Laid (now book) h × Laid (now locked) (headerOf (now locked)) ⌝ }
     requires { ⌜ Promise (bookIn (now book) h) (bookOf (now locked)) ⌝ }
     requires { ⌜ HeldIs (bookIn (now book) h .energy) (h .energies) account held ⌝ }

@@ -4,7 +4,7 @@
 //! FERVOLATRO_BRIDGE is set, the program that it names is started instead, with no
 //! arguments.
 
-use crate::calls::{Books, Cost, Entry, Heading, Pool, Verdict, Written};
+use crate::calls::{Books, Cost, Entry, Heading, NmasEntry, NmasSize, Pool, Verdict, Written};
 use std::cell::RefCell;
 use std::env;
 use std::io::{Read, Write};
@@ -212,4 +212,51 @@ pub(crate) fn base_cost(rows: &[u8], id: u32, service: u64) -> Cost {
     request.extend_from_slice(&id.to_le_bytes());
     request.extend_from_slice(&service.to_le_bytes());
     ask_cost(&request)
+}
+
+pub(crate) fn nmas(books: Books, account: u32, r#type: u64, buffer: &mut [u8]) -> Written {
+    let mut request = request_on(b'f', books);
+    request.extend_from_slice(&account.to_le_bytes());
+    request.extend_from_slice(&r#type.to_le_bytes());
+    ask_to_write(request, buffer)
+}
+
+pub(crate) fn nmas_rows(text: &[u8]) -> NmasSize {
+    let [refusal, place, rows] = ask(&request(b't', text));
+    NmasSize {
+        refusal,
+        place,
+        rows,
+    }
+}
+
+pub(crate) fn nmas_row(text: &[u8], index: u64) -> NmasEntry {
+    let mut request = request(b'e', text);
+    request.extend_from_slice(&index.to_le_bytes());
+    let numbers: [u64; 18] = ask(&request);
+    let [refusal, place, date, run, interval, account, contract, r#type, region, factor, payment, ..] =
+        numbers;
+    // The bits are those of the signed numbers.
+    let [.., recovery, own_ace, region_ace, own_asoe, region_asoe, by_ace, by_asoe] =
+        numbers.map(u64::cast_signed);
+    NmasEntry {
+        refusal,
+        place,
+        date,
+        run,
+        interval,
+        account,
+        contract,
+        r#type,
+        region,
+        factor,
+        payment,
+        recovery,
+        own_ace,
+        region_ace,
+        own_asoe,
+        region_asoe,
+        by_ace,
+        by_asoe,
+    }
 }

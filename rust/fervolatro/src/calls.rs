@@ -1,6 +1,8 @@
 //! The calls of `include/fervolatro.h`: those of the linked library, or of the bridge
 //! where the tests ask for it.
 
+use std::fmt::Display;
+
 use crate::refusal::Refusal;
 
 /// What a call on a book reads.
@@ -75,6 +77,37 @@ pub(crate) struct Cost {
     pub(crate) amount: u64,
 }
 
+/// `fervolatro_nmas_size` of `include/fervolatro.h`.
+#[repr(C)]
+pub(crate) struct NmasSize {
+    pub(crate) refusal: u64,
+    pub(crate) place: u64,
+    pub(crate) rows: u64,
+}
+
+/// `fervolatro_nmas_entry` of `include/fervolatro.h`.
+#[repr(C)]
+pub(crate) struct NmasEntry {
+    pub(crate) refusal: u64,
+    pub(crate) place: u64,
+    pub(crate) date: u64,
+    pub(crate) run: u64,
+    pub(crate) interval: u64,
+    pub(crate) account: u64,
+    pub(crate) contract: u64,
+    pub(crate) r#type: u64,
+    pub(crate) region: u64,
+    pub(crate) factor: u64,
+    pub(crate) payment: u64,
+    pub(crate) recovery: i64,
+    pub(crate) own_ace: i64,
+    pub(crate) region_ace: i64,
+    pub(crate) own_asoe: i64,
+    pub(crate) region_asoe: i64,
+    pub(crate) by_ace: i64,
+    pub(crate) by_asoe: i64,
+}
+
 /// Whether the call was accepted. What is accepted has place 0, and a refusal's other
 /// fields are all 0: what the library never answers is not passed over in silence.
 pub(crate) fn accepted(refusal: u64, place: u64, is_empty: bool) -> Result<(), Refusal> {
@@ -84,6 +117,12 @@ pub(crate) fn accepted(refusal: u64, place: u64, is_empty: bool) -> Result<(), R
     }
     assert!(is_empty, "a refusal gives nothing");
     Err(Refusal::of(refusal, place))
+}
+
+/// A field of an answer, which fits the bytes that books and statements have for it.
+pub(crate) fn field<W: Copy + Display, N: TryFrom<W>>(number: W) -> N {
+    let fitting = N::try_from(number).ok();
+    fitting.unwrap_or_else(|| panic!("{number} is wider than its field"))
 }
 
 impl Verdict {
@@ -118,16 +157,18 @@ impl Cost {
 
 #[cfg(not(any(target_arch = "x86_64", feature = "native")))]
 pub(crate) use crate::bridge::{
-    balance, base_cost, check, header, length, line, lines, payment, rewrite, statement,
+    balance, base_cost, check, header, length, line, lines, nmas, nmas_row, nmas_rows, payment,
+    rewrite, statement,
 };
 #[cfg(any(target_arch = "x86_64", feature = "native"))]
 pub(crate) use linked::{
-    balance, base_cost, check, header, length, line, lines, payment, rewrite, statement,
+    balance, base_cost, check, header, length, line, lines, nmas, nmas_row, nmas_rows, payment,
+    rewrite, statement,
 };
 
 #[cfg(any(target_arch = "x86_64", feature = "native"))]
 mod linked {
-    use super::{Books, Cost, Entry, Heading, Pool, Verdict, Written};
+    use super::{Books, Cost, Entry, Heading, NmasEntry, NmasSize, Pool, Verdict, Written};
 
     extern "C" {
         fn fervolatro_check(
@@ -184,6 +225,21 @@ mod linked {
         fn fervolatro_payment(rows: *const u8, rows_len: usize, service: u64) -> Cost;
 
         fn fervolatro_base_cost(rows: *const u8, rows_len: usize, id: u32, service: u64) -> Cost;
+
+        fn fervolatro_nmas(
+            book: *const u8,
+            book_len: usize,
+            locked: *const u8,
+            locked_len: usize,
+            account: u32,
+            r#type: u64,
+            buffer: *mut u8,
+            buffer_len: usize,
+        ) -> Written;
+
+        fn fervolatro_nmas_rows(text: *const u8, text_len: usize) -> NmasSize;
+
+        fn fervolatro_nmas_row(text: *const u8, text_len: usize, index: u64) -> NmasEntry;
     }
 
     pub(crate) fn check(Books { book, locked }: Books) -> Verdict {
@@ -278,11 +334,38 @@ mod linked {
         // SAFETY: as for a check.
         unsafe { fervolatro_base_cost(rows.as_ptr(), rows.len(), id, service) }
     }
+
+    pub(crate) fn nmas(books: Books, account: u32, r#type: u64, buffer: &mut [u8]) -> Written {
+        let Books { book, locked } = books;
+        // SAFETY: as for a statement.
+        unsafe {
+            fervolatro_nmas(
+                book.as_ptr(),
+                book.len(),
+                locked.as_ptr(),
+                locked.len(),
+                account,
+                r#type,
+                buffer.as_mut_ptr(),
+                buffer.len(),
+            )
+        }
+    }
+
+    pub(crate) fn nmas_rows(text: &[u8]) -> NmasSize {
+        // SAFETY: as for a check.
+        unsafe { fervolatro_nmas_rows(text.as_ptr(), text.len()) }
+    }
+
+    pub(crate) fn nmas_row(text: &[u8], index: u64) -> NmasEntry {
+        // SAFETY: as for a check.
+        unsafe { fervolatro_nmas_row(text.as_ptr(), text.len(), index) }
+    }
 }
 
 #[cfg(test)]
 mod tests {
-    use super::{Cost, Entry, Heading, Pool, Refusal, Verdict, Written};
+    use super::{Cost, Entry, Heading, NmasEntry, NmasSize, Pool, Refusal, Verdict, Written};
     use std::mem::offset_of;
 
     const HEADER: &str = include_str!("../../../include/fervolatro.h");
@@ -302,7 +385,8 @@ mod tests {
 
     macro_rules! assert_layout {
         ($of:ty, $name:literal, $size:literal: $($field:ident)*) => {
-            let here = [$((stringify!($field), offset_of!($of, $field))),*];
+            // A name that is a word of the language has `r#` before it.
+            let here = [$((stringify!($field).trim_start_matches("r#"), offset_of!($of, $field))),*];
             assert_eq!(fields_in_header($name), here, $name);
             assert_eq!(size_of::<$of>(), $size, $name);
         };
@@ -318,6 +402,10 @@ mod tests {
         assert_layout!(Entry, "fervolatro_entry", 56:
             refusal place id part regions unit amount);
         assert_layout!(Cost, "fervolatro_cost", 24: refusal place amount);
+        assert_layout!(NmasSize, "fervolatro_nmas_size", 24: refusal place rows);
+        assert_layout!(NmasEntry, "fervolatro_nmas_entry", 144:
+            refusal place date run interval account contract r#type region factor payment
+            recovery own_ace region_ace own_asoe region_asoe by_ace by_asoe);
         // The numbers of a line, which `Line::of` takes in this order.
         let fields = ["id", "part", "regions", "unit", "amount"];
         let numbers = fields.into_iter().zip((0..).step_by(8));

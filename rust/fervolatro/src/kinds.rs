@@ -58,6 +58,15 @@ numbered! {
     }
 }
 
+numbered! {
+    /// What a restart contract's payment is for, as the reconciliation file has it.
+    PaymentType {
+        Availability = 0, "AVAILABILITY";
+        Enablement = 1, "ENABLEMENT";
+        Compensation = 2, "COMPENSATION";
+    }
+}
+
 impl Service {
     /// Whether it raises the frequency; else it lowers it.
     pub const fn is_raise(self) -> bool {
@@ -74,6 +83,13 @@ impl Service {
 impl From<Service> for u64 {
     fn from(service: Service) -> Self {
         service.number().into()
+    }
+}
+
+/// A call that asks for a payment type takes any number: a payment type stands for its own.
+impl From<PaymentType> for u64 {
+    fn from(payment_type: PaymentType) -> Self {
+        payment_type.number().into()
     }
 }
 
@@ -141,7 +157,7 @@ impl fmt::Debug for Regions {
 
 #[cfg(test)]
 mod tests {
-    use super::{Mode, Part, Region, Regions, Service};
+    use super::{Mode, Part, PaymentType, Region, Regions, Service};
 
     #[test]
     fn odd_services_raise_and_the_last_two_are_regulation() {
@@ -164,6 +180,12 @@ mod tests {
     fn services_are_the_numbers_1_to_10() {
         let numbers = Service::ALL.iter().map(|&service| u64::from(service));
         assert!(numbers.eq(1..=10));
+    }
+
+    #[test]
+    fn payment_types_are_the_numbers_0_to_2() {
+        let numbers = PaymentType::ALL.iter().map(|&kind| u64::from(kind));
+        assert!(numbers.eq(0..=2));
     }
 
     /// Every mask of five bits is the set of its regions, and no other is one.
@@ -194,6 +216,7 @@ mod tests {
             "residual unused regulation"
         );
         assert_eq!(Mode::Default.to_string(), "default");
+        assert_eq!(PaymentType::Enablement.to_string(), "ENABLEMENT");
         assert_eq!(format!("[{:>6}]", Region::Sa1), "[   SA1]");
         let regions = Regions::from_iter([Region::Vic1, Region::Nsw1]);
         assert_eq!(regions.to_string(), "NSW1, VIC1");

@@ -1,9 +1,10 @@
 //! The Fervolatro library: books of one five-minute trading interval are checked and
-//! settled, statements are read back, costs are made from dispatch rows.
+//! settled, statements are read back, costs are made from dispatch rows, and the
+//! reconciliation file for restart contracts (NMAS) is written and read back.
 //!
-//! A book, a statement and dispatch rows are bytes; `docs/BOOK.md` of the repository has
-//! their layout and the rules. Every call answers any bytes, and is proved to answer
-//! what the rules say.
+//! A book, a statement, dispatch rows and a file are bytes; `docs/BOOK.md` of the
+//! repository has their layout and the rules. Every call answers any bytes, and is proved
+//! to answer what the rules say.
 //!
 //! Every call on a book takes the locked book as well, which contracts of kind 2 (test
 //! payments) are shared by: `Some` of its bytes, or `None`. It is read where the book has
@@ -17,10 +18,12 @@
 //! - [`Statement::read`] reads a statement: its heading, and its lines one by one.
 //! - [`payment`] gives a service's payment, [`base_cost`] a constraint's base cost, from
 //!   dispatch rows.
+//! - [`nmas`] gives an account's reconciliation file, [`nmas_rows`] how many rows such a
+//!   text has, [`nmas_row`] one of them.
 //!
 //! Where nothing may be allocated, [`statement_into`], [`header`], [`line()`],
-//! [`lines_into`] and [`rewrite_into`] do the same with bytes that are lent to them;
-//! [`length`] says how many a statement takes.
+//! [`lines_into`], [`rewrite_into`] and [`nmas_into`] do the same with bytes that are lent
+//! to them; [`length`] says how many a statement takes.
 //!
 //! ```
 //! # fn main() -> Result<(), Box<dyn std::error::Error>> {
@@ -44,6 +47,7 @@ mod bridge;
 mod calls;
 mod dispatch;
 mod kinds;
+mod nmas;
 mod numbered;
 mod refusal;
 mod statement;
@@ -53,7 +57,8 @@ pub use book::{
     Source, LARGEST_BOOK,
 };
 pub use dispatch::{base_cost, payment, DISPATCH_ROW_SIZE};
-pub use kinds::{Mode, Part, Region, Regions, Service};
+pub use kinds::{Mode, Part, PaymentType, Region, Regions, Service};
+pub use nmas::{nmas, nmas_into, nmas_row, nmas_rows, NmasRow, LARGEST_NMAS, MOST_NMAS_ROWS};
 pub use refusal::{Reason, Refusal};
 pub use statement::{
     header, line, lines_into, rewrite, rewrite_into, Heading, Line, Lines, Statement,

@@ -48,9 +48,10 @@ pub(crate) use numbered;
 
 #[cfg(test)]
 mod tests {
-    use crate::{Mode, Part, Reason, Region, Service};
+    use crate::{Mode, Part, PaymentType, Reason, Region, Service};
     use crate::{
-        DISPATCH_ROW_SIZE, LARGEST_BOOK, LARGEST_STATEMENT, LINE_NUMBERS_SIZE, MOST_LINES,
+        DISPATCH_ROW_SIZE, LARGEST_BOOK, LARGEST_NMAS, LARGEST_STATEMENT, LINE_NUMBERS_SIZE,
+        MOST_LINES, MOST_NMAS_ROWS,
     };
     use std::fmt::Debug;
 
@@ -101,6 +102,7 @@ mod tests {
         assert_numbers!(Service, "FERVOLATRO_SERVICE_", "");
         assert_numbers!(Region, "FERVOLATRO_REGION_", "BIT_");
         assert_numbers!(Mode, "FERVOLATRO_MODE_", "");
+        assert_numbers!(PaymentType, "FERVOLATRO_PAYMENT_TYPE_", "");
     }
 
     #[test]
@@ -113,6 +115,8 @@ mod tests {
         defined("LARGEST_STATEMENT", LARGEST_STATEMENT);
         defined("MOST_LINES", MOST_LINES);
         defined("DISPATCH_ROW_SIZE", DISPATCH_ROW_SIZE);
+        defined("LARGEST_NMAS", LARGEST_NMAS);
+        defined("MOST_NMAS_ROWS", MOST_NMAS_ROWS);
         assert!(HEADER.contains(&format!("its length is {LINE_NUMBERS_SIZE} x lines")));
     }
 }

@@ -7,11 +7,12 @@ use crate::numbered::numbered;
 
 numbered! {
     /// The reasons for a refusal, as the rules number them: 1 to 10, 17 and 18 come from
-    /// every call on a book, 11 and 12 from asking for a statement or for its length, 13
-    /// from writing it, 15 from asking for a balance; 13 to 15 from a call on a statement;
-    /// 16 from a call on dispatch rows. The first that applies is given: 17 and 18 are
-    /// looked for after 9 and before 10, the others in the order of their numbers, but 14
-    /// before 13.
+    /// every call on a book, 11 and 12 from asking for a statement, for its length or for a
+    /// reconciliation file, 13 from writing either, 15 from asking for a balance or, with a
+    /// payment type past 2, for a file; 13 to 15 from a call on a statement; 16 from a call
+    /// on dispatch rows; 19 and 15 from reading a file. The first that applies is given: 17
+    /// and 18 are looked for after 9 and before 10, the others in the order of their
+    /// numbers, but 14 before 13, a payment type's 15 before all else and a row's behind 19.
     Reason {
         Short = 1, "book shorter than 84 bytes";
         Mark = 2, "mark, version or a reserved header byte wrong";
@@ -31,17 +32,18 @@ numbered! {
         DispatchRow = 16, "a dispatch row that is cut short, out of range, not rising, has a product above 600,000,000,000 or takes a sum past 50,000,000,000";
         NoLocked = 17, "a kind 2 contract has no locked book";
         Locked = 18, "the locked book fails one of checks 1 to 9, has another date or interval, or a later run";
+        NmasLine = 19, "text not of the file's form, out of the book's or statement's ranges, a benefit factor of 0, or RECOVERY_AMOUNT not the sum of the last two";
     }
 }
 
 impl Reason {
-    /// Whether it is one record's or one row's, so that its place is to be told.
+    /// Whether it is one record's, row's or line's, so that its place is to be told.
     const fn has_place(self) -> bool {
-        matches!(self.number(), 5..=10 | 16..=18)
+        matches!(self.number(), 5..=10 | 16..=19)
     }
 }
 
-/// A refusal: why, and at which record or row.
+/// A refusal: why, and at which record, row or line.
 ///
 /// ```
 /// let refusal = fervolatro::check(b"RCB", None).unwrap_err();
@@ -55,8 +57,9 @@ pub struct Refusal {
     pub reason: Reason,
     /// Where the record at fault starts, in bytes from the start of the book, or the
     /// dispatch row, in bytes from the start of the rows. With 17 and 18 the record is
-    /// the book's first contract of kind 2. 0 where it is no record's and no row's, as
-    /// with every reason but 5 to 10 and 16 to 18.
+    /// the book's first contract of kind 2. With 19 it is the number of the line at fault,
+    /// from 0. 0 where it is no record's, row's or line's, as with every reason but 5 to 10
+    /// and 16 to 19.
     pub place: usize,
 }
 
@@ -70,7 +73,7 @@ impl Refusal {
     pub(crate) fn of(number: u64, place: u64) -> Self {
         let reason = u8::try_from(number).ok().and_then(Reason::from_number);
         Refusal {
-            reason: reason.expect("refusals are numbered 1 to 18"),
+            reason: reason.expect("refusals are numbered 1 to 19"),
             place: usize::try_from(place).expect("a place lies within the lent bytes"),
         }
     }
@@ -93,7 +96,7 @@ mod tests {
     use super::{Reason, Refusal};
 
     /// The meaning of every number, as the rules' table has it.
-    const SAID: [&str; 18] = [
+    const SAID: [&str; 19] = [
         "refusal 1: book shorter than 84 bytes",
         "refusal 2: mark, version or a reserved header byte wrong",
         "refusal 3: interval, date, run or a count out of its range",
@@ -116,6 +119,9 @@ mod tests {
         "refusal 17 at 84: a kind 2 contract has no locked book",
         "refusal 18 at 84: the locked book fails one of checks 1 to 9, has another date or interval, \
          or a later run",
+        // The first line's number.
+        "refusal 19 at 0: text not of the file's form, out of the book's or statement's ranges, a \
+         benefit factor of 0, or RECOVERY_AMOUNT not the sum of the last two",
     ];
 
     #[test]
@@ -130,9 +136,9 @@ mod tests {
     }
 
     #[test]
-    #[should_panic(expected = "refusals are numbered 1 to 18")]
+    #[should_panic(expected = "refusals are numbered 1 to 19")]
     fn a_number_that_no_refusal_has_is_not_passed_over() {
-        Refusal::of(19, 0);
+        Refusal::of(20, 0);
     }
 
     /// What `?` and `Box<dyn Error>` ask for.

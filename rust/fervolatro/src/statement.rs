@@ -3,7 +3,7 @@
 use std::iter::FusedIterator;
 use std::slice;
 
-use crate::calls;
+use crate::calls::{self, field};
 use crate::kinds::{Part, Regions};
 use crate::refusal::Refusal;
 
@@ -253,10 +253,4 @@ impl calls::Entry {
         calls::accepted(self.refusal, self.place, is_empty)?;
         Ok(Line::of_fields(fields, self.amount))
     }
-}
-
-/// A field of a statement, which fits the bytes it has there.
-fn field<N: TryFrom<u64>>(number: u64) -> N {
-    let fitting = N::try_from(number).ok();
-    fitting.unwrap_or_else(|| panic!("{number} is wider than its field"))
 }

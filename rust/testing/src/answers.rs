@@ -9,9 +9,10 @@ pub use fervolatro::{Balance, Heading};
 #[derive(Clone, Copy, Debug, PartialEq, Eq)]
 pub struct Refusal {
     /// The number of the refusal as in the scope document's table; 16 of a dispatch row,
-    /// 17 and 18 of the locked book.
+    /// 17 and 18 of the locked book, 19 of a line of the reconciliation file.
     pub number: u8,
-    /// The offset of the record or the row at fault, or 0 where the number has none.
+    /// The offset of the record or the row at fault, or the number of the line, or 0 where
+    /// the refusal has none.
     pub place: usize,
 }
 
@@ -34,4 +35,31 @@ pub struct Entry {
     pub unit: u32,
     /// In ten-thousandths of a dollar; what the account must pay is negative.
     pub amount: i64,
+}
+
+/// What one line of the reconciliation file says. Each number has room beyond its range,
+/// so that one can be written down that is out of it.
+#[derive(Clone, Copy, Debug, Default, PartialEq, Eq)]
+pub struct NmasRow {
+    pub date: i64,
+    pub run: i64,
+    pub interval: i64,
+    pub account: i64,
+    pub contract: i64,
+    /// 0 availability, 1 enablement, 2 compensation.
+    pub payment_type: usize,
+    /// From 0 for NSW1 to 4 for VIC1.
+    pub region: usize,
+    /// In millionths.
+    pub factor: i64,
+    /// In ten-thousandths of a dollar, as the other amounts.
+    pub payment: i64,
+    pub recovery: i64,
+    /// In kWh, as the other energies.
+    pub own_ace: i64,
+    pub region_ace: i64,
+    pub own_asoe: i64,
+    pub region_asoe: i64,
+    pub by_ace: i64,
+    pub by_asoe: i64,
 }

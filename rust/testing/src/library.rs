@@ -3,7 +3,7 @@
 use fervolatro::PoolKind;
 
 use crate::reference::Kind;
-use crate::{Balance, Books, Entry, Heading, Refusal};
+use crate::{Balance, Books, Entry, Heading, NmasRow, Refusal};
 
 pub fn check<'b>(books: impl Into<Books<'b>>) -> Result<(), Refusal> {
     let (book, locked) = lent(books);
@@ -90,6 +90,35 @@ pub fn base_cost(rows: &[u8], id: u32, service: u64) -> Result<u64, Refusal> {
     fervolatro::base_cost(rows, id, service).map_err(plain)
 }
 
+pub fn nmas<'b>(
+    books: impl Into<Books<'b>>,
+    account: u32,
+    payment_type: u64,
+    buffer: &mut [u8],
+) -> Result<usize, Refusal> {
+    let (book, locked) = lent(books);
+    fervolatro::nmas_into(book, locked, account, payment_type, buffer).map_err(plain)
+}
+
+pub fn whole_nmas<'b>(
+    books: impl Into<Books<'b>>,
+    account: u32,
+    payment_type: u64,
+) -> Result<Vec<u8>, Refusal> {
+    let (book, locked) = lent(books);
+    fervolatro::nmas(book, locked, account, payment_type).map_err(plain)
+}
+
+pub fn nmas_rows(text: &[u8]) -> Result<usize, Refusal> {
+    fervolatro::nmas_rows(text).map_err(plain)
+}
+
+pub fn nmas_row(text: &[u8], index: u64) -> Result<NmasRow, Refusal> {
+    fervolatro::nmas_row(text, index)
+        .map(nmas_numbers)
+        .map_err(plain)
+}
+
 fn kind(kind: PoolKind) -> Kind {
     match kind {
         PoolKind::Contingency => Kind::Contingency,
@@ -114,5 +143,26 @@ fn entry(line: fervolatro::Line) -> Entry {
         regions: line.regions.mask(),
         unit: line.unit.unwrap_or(0),
         amount: line.amount,
+    }
+}
+
+fn nmas_numbers(row: fervolatro::NmasRow) -> NmasRow {
+    NmasRow {
+        date: row.date.into(),
+        run: row.run.into(),
+        interval: row.interval.into(),
+        account: row.account.into(),
+        contract: row.contract.into(),
+        payment_type: row.payment_type.number().into(),
+        region: row.region.number().into(),
+        factor: row.factor.into(),
+        payment: i64::try_from(row.payment).expect("a payment is at most 50,000,000,000"),
+        recovery: row.recovery,
+        own_ace: row.own_ace.into(),
+        region_ace: row.region_ace.into(),
+        own_asoe: row.own_asoe.into(),
+        region_asoe: row.region_asoe.into(),
+        by_ace: row.by_ace,
+        by_asoe: row.by_asoe,
     }
 }

@@ -1,6 +1,7 @@
-//! An account's statement tells nothing about its neighbours, nor does its length: in
-//! books that agree in what is public and in the account's own rows, and differ in all
-//! the rest, the library answers the same length and writes the same bytes. Where the
+//! An account's statement tells nothing about its neighbours, nor does its length, nor its
+//! reconciliation file: in books that agree in what is public and in the account's own
+//! rows, and differ in all the rest, the library answers the same length and writes the
+//! same bytes. Where the
 //! locked book is read, its region totals and the account's rows in it agree, and nothing
 //! else of it has to; where it is not, any bytes stand in its place.
 
@@ -18,11 +19,14 @@ use fervolatro_testing::{library, reference, Books, Refusal};
 const OTHER_COUNTS: &str = "other numbers of rows";
 const OTHER_LOCKED: &str = "another locked book that is read";
 const UNREAD: &str = "other bytes that are not read";
+const LINES: &str = "file with lines";
 
 #[test]
 fn statements_do_not_show_neighbours() {
     let mut seen: Vec<(String, u64)> = [0, 11, 13].map(|of| (answer(of), 1_000)).to_vec();
     seen.extend([0, 11].map(|of| (length_answer(of), 1_000)));
+    seen.extend([0, 11, 13].map(|of| (file_answer(of), 1_000)));
+    seen.push((LINES.to_owned(), 10_000));
     seen.extend(CHANGES.map(|change| (change.name.to_owned(), 100)));
     let of_locked = CHANGES.iter().chain(&LOCKED_CHANGES);
     seen.extend(of_locked.map(|change| (of_the_locked(change), 100)));
@@ -53,6 +57,10 @@ fn length_answer(number: u8) -> String {
     format!("length, answer {number:2}")
 }
 
+fn file_answer(number: u8) -> String {
+    format!("file, answer {number:2}")
+}
+
 fn compare_pairs(run: &mut Run, pairs: usize, most: Sizes) {
     for _ in 0..pairs {
         compare_pair(run, most);
@@ -74,6 +82,7 @@ fn compare_pair(run: &mut Run, most: Sizes) {
     see(run, &books, &pair);
     compare_lengths(run, &pair, account);
     compare_statements(run, &pair, account);
+    compare_files(run, &pair, account);
 }
 
 /// Counts in what the two differ.
@@ -109,15 +118,44 @@ fn compare_lengths(run: &mut Run, pair: &[Encoded; 2], account: u32) {
 
 /// So have the statements, and every byte of the buffers.
 fn compare_statements(run: &mut Run, pair: &[Encoded; 2], account: u32) {
-    let room = room(run, Books::from(&pair[0]), account);
+    let length = reference::length(&pair[0], account).unwrap_or(312);
+    let room = room(run, length);
+    let given = compare_written(run, pair, room, |books, buffer| {
+        library::statement(books, account, buffer)
+    });
+    run.see(answer(number(given)));
+}
+
+/// So have the files, and every byte of the buffers.
+fn compare_files(run: &mut Run, pair: &[Encoded; 2], account: u32) {
+    let payment_type = run.random.below(3) as u64;
+    let text = reference::whole_nmas(&pair[0], account, payment_type);
+    let length = text.map_or(171, |text| text.len());
+    let room = room(run, length);
+    let given = compare_written(run, pair, room, |books, buffer| {
+        library::nmas(books, account, payment_type, buffer)
+    });
+    run.see(file_answer(number(given)));
+    if given.is_ok_and(|length| length > 0) {
+        run.see(LINES);
+    }
+}
+
+/// Has both written into a buffer of that length, and gives the answer.
+fn compare_written(
+    run: &mut Run,
+    pair: &[Encoded; 2],
+    room: usize,
+    write: impl Fn(Books, &mut [u8]) -> Result<usize, Refusal>,
+) -> Result<usize, Refusal> {
     let start = run.random.bits() as u8;
     let [first, second] = pair.each_ref().map(|bytes| {
         let mut lent = Lent::new(room, start);
-        (library::statement(bytes, account, lent.buffer()), lent)
+        (write(Books::from(bytes), lent.buffer()), lent)
     });
     assert!(
         first == second,
-        "{}: {:?} and {:?}, first different byte {:?}; account {account}, room {room}, {} and {}",
+        "{}: {:?} and {:?}, first different byte {:?}; room {room}, {} and {}",
         run.place(),
         first.0,
         second.0,
@@ -125,7 +163,7 @@ fn compare_statements(run: &mut Run, pair: &[Encoded; 2], account: u32) {
         shown(&pair[0]),
         shown(&pair[1])
     );
-    run.see(answer(number(first.0)));
+    first.0
 }
 
 /// An accepted book, the locked one, and an account, most often one that they have, at
@@ -186,12 +224,11 @@ fn assert_right_pair(books: &Pair, changed: &Pair, account: u32, pair: &[Encoded
     }
 }
 
-/// Room for the statement, now and then too little, at times by one byte.
-fn room(run: &mut Run, books: Books, account: u32) -> usize {
-    let length = reference::length(books, account).unwrap_or(312);
+/// Room for so many bytes, now and then too little, at times by one byte.
+fn room(run: &mut Run, length: usize) -> usize {
     match run.random.below(8) {
-        0 => run.random.below(length),
-        1 => length - 1,
+        0 => run.random.below(length.max(1)),
+        1 => length.saturating_sub(1),
         2 => length,
         _ => length + run.random.below(100),
     }

@@ -1,10 +1,13 @@
 //! What the package for users adds to the library's calls: lists of accounts and pools,
-//! statements of just the length asked for, lines one by one, services by their names.
+//! statements of just the length asked for, lines one by one, services by their names,
+//! reconciliation files without a buffer and their rows by names.
 //! The expected values are worked out by hand; `by_hand.rs` has those of the other book.
 
 use fervolatro::{
-    Mode, Part, Pool, PoolKind, Reason, Refusal, Region, Regions, Service, Source, Statement,
+    Mode, NmasRow, Part, PaymentType, Pool, PoolKind, Reason, Refusal, Region, Regions, Service,
+    Source, Statement,
 };
+use fervolatro_testing::book::Book;
 use fervolatro_testing::dispatch::{encode, Row};
 use fervolatro_testing::requests::generate::book_of_longest_statement;
 use fervolatro_testing::requests::random::Random;
@@ -163,6 +166,8 @@ fn an_empty_locked_book_is_none() {
         assert_eq!(accounts, refused(Reason::NoLocked, 272));
         let pools = fervolatro::pools(&book, locked);
         assert_eq!(pools, refused(Reason::NoLocked, 272));
+        let file = fervolatro::nmas(&book, locked, 7, PaymentType::Availability);
+        assert_eq!(file, refused(Reason::NoLocked, 272));
     }
 }
 
@@ -321,4 +326,189 @@ fn base_costs_are_costs_of_a_book() {
         book.constraints[0].cost = made.cast_signed();
         assert_eq!(fervolatro::check(&book.encode(), None), Ok(()));
     }
+}
+
+/// Account 7's file of the small halves. Contract 1, payment 5 in NSW1: halves of 3 and 2,
+/// of which 1.5 and 1 are its own. Contract 2, payment 3: 1.5 in each region, so 2, halves
+/// of 1, of which it has one half each, so 1.
+const FILE: &str = "\
+    20250608,1,1,7,RESTART,1,ENABLEMENT,NSW1,1.000000,0.0005,\
+    -0.0003,-0.001,-0.002,0.001,0.002,-0.0002,-0.0001\n\
+    20250608,1,1,7,RESTART,2,ENABLEMENT,NSW1,0.500000,0.0003,\
+    -0.0002,-0.001,-0.002,0.001,0.002,-0.0001,-0.0001\n\
+    20250608,1,1,7,RESTART,2,ENABLEMENT,QLD1,0.500000,0.0003,\
+    -0.0002,-0.001,-0.002,0.001,0.002,-0.0001,-0.0001\n";
+
+#[test]
+fn files_have_just_their_length() {
+    let book = small_halves_book().encode();
+    let file = fervolatro::nmas(&book, None, 7, PaymentType::Enablement);
+    assert_eq!(file, Ok(FILE.as_bytes().to_vec()));
+    assert_eq!(fervolatro::nmas(&book, None, 7, 1_u64), file);
+    let empty = fervolatro::nmas(&worked_book().encode(), None, 7, PaymentType::Enablement);
+    assert_eq!(empty, Ok(Vec::new()));
+}
+
+/// The three types differ in their word, and in nothing else.
+#[test]
+fn payment_types_by_their_names() {
+    let book = small_halves_book().encode();
+    for &payment_type in PaymentType::ALL {
+        let file = fervolatro::nmas(&book, None, 7, payment_type);
+        let expected = FILE.replace("ENABLEMENT", payment_type.words());
+        assert_eq!(file, Ok(expected.clone().into_bytes()));
+        let row = fervolatro::nmas_row(expected.as_bytes(), 0);
+        assert_eq!(row.map(|row| row.payment_type), Ok(payment_type));
+    }
+    // Another number is refused, whatever the book is.
+    for number in [3, 256, 1 << 32, u64::MAX] {
+        for book in [&book[..], b"RCB"] {
+            let past = fervolatro::nmas(book, None, 7, number);
+            assert_eq!(past, refused(Reason::PastEnd, 0), "{number}");
+        }
+    }
+}
+
+#[test]
+fn rows_of_a_file() {
+    assert_eq!(fervolatro::nmas_rows(FILE.as_bytes()), Ok(3));
+    let row = NmasRow {
+        date: 20_250_608,
+        run: 1,
+        interval: 1,
+        account: 7,
+        contract: 2,
+        payment_type: PaymentType::Enablement,
+        region: Region::Qld1,
+        factor: 500_000,
+        payment: 3,
+        recovery: -2,
+        own_ace: -1,
+        region_ace: -2,
+        own_asoe: 1,
+        region_asoe: 2,
+        by_ace: -1,
+        by_asoe: -1,
+    };
+    assert_eq!(fervolatro::nmas_row(FILE.as_bytes(), 2), Ok(row));
+    let past = fervolatro::nmas_row(FILE.as_bytes(), 3);
+    assert_eq!(past, refused(Reason::PastEnd, 0));
+    let wrong = FILE.replace("QLD1", "QLD");
+    assert_eq!(
+        fervolatro::nmas_row(wrong.as_bytes(), 0),
+        refused(Reason::NmasLine, 2)
+    );
+}
+
+/// A lent buffer that is too short is left as it was.
+#[test]
+fn files_into_a_buffer() {
+    let book = small_halves_book().encode();
+    let mut buffer = vec![0xa5; FILE.len() + 1];
+    let short = &mut buffer[..FILE.len() - 1];
+    let given = fervolatro::nmas_into(&book, None, 7, PaymentType::Enablement, short);
+    assert_eq!(given, refused(Reason::Buffer, 0));
+    assert!(buffer.iter().all(|&byte| byte == 0xa5));
+    let given = fervolatro::nmas_into(&book, None, 7, PaymentType::Enablement, &mut buffer);
+    assert_eq!(given, Ok(FILE.len()));
+    assert_eq!(buffer, [FILE.as_bytes(), &[0xa5]].concat());
+}
+
+/// The energies are the locked book's, in which account 9 has none and account 11 what 9
+/// has in the other; the run is the book's, 2. The payment is 0.
+#[test]
+fn files_of_a_test_payment() {
+    let (mut book, locked) = test_payment();
+    book[12] = 2;
+    for (account, [ace, asoe]) in [(9, ["0.000", "0.000"]), (11, ["-1000.000", "580.000"])] {
+        let file = fervolatro::nmas(&book, Some(&locked), account, PaymentType::Compensation);
+        let by_hand = format!(
+            "20250608,2,1,{account},RESTART,1,COMPENSATION,NSW1,1.000000,0.0000,0.0000,{ace},\
+             -1015.000,{asoe},585.000,0.0000,0.0000\n"
+        );
+        assert_eq!(file, Ok(by_hand.into_bytes()));
+    }
+}
+
+/// Without contracts there is nothing to lend room for. Account 8 is not there.
+#[test]
+fn files_without_rows() {
+    let book = worked_book().encode();
+    let write =
+        |account| fervolatro::nmas_into(&book, None, account, PaymentType::Availability, &mut []);
+    assert_eq!(write(7), Ok(0));
+    assert_eq!(write(8), refused(Reason::NoAccount, 0));
+    assert_eq!(fervolatro::nmas_rows(&[]), Ok(0));
+    assert_eq!(fervolatro::nmas_row(&[], 0), refused(Reason::PastEnd, 0));
+}
+
+/// A book of 16 contracts of the highest payment, of whose energy one account has all, as
+/// much as there can be. `tests/c/books.h` says why no file is longer.
+fn book_of_longest_file() -> Book {
+    let mut book = empty_book();
+    (book.header.run, book.header.interval) = (99, 288);
+    let energies = [-20_000_000, 20_000_000, 0, 0];
+    book.energies = (0..5)
+        .map(|region| energy_row(u32::MAX, region, energies))
+        .collect();
+    let factors = [400_000, 400_000, 100_000, 50_000, 50_000];
+    book.contracts = (u32::MAX - 15..=u32::MAX)
+        .map(|id| contract(id, 1, 50_000_000_000, factors))
+        .collect();
+    book.total_regions();
+    book
+}
+
+/// 16 x 840 bytes, and a row for each contract and region.
+#[test]
+fn the_longest_file_is_written_and_read() {
+    let book = book_of_longest_file().encode();
+    let file = fervolatro::nmas(&book, None, u32::MAX, PaymentType::Compensation);
+    let file = file.expect("there is always room");
+    assert_eq!(file.len(), 13_440);
+    assert!(file.len() <= fervolatro::LARGEST_NMAS);
+    let rows = fervolatro::nmas_rows(&file);
+    assert_eq!(rows, Ok(fervolatro::MOST_NMAS_ROWS));
+    let last = fervolatro::nmas_row(&file, 79).expect("it is there");
+    assert_eq!((last.contract, last.region), (u32::MAX, Region::Vic1));
+}
+
+/// Every number differs from every other, so that none stands for another.
+#[test]
+fn rows_by_their_names() {
+    let line = "20960229,98,287,4275878552,RESTART,3405697037,ENABLEMENT,SA1,0.654321,\
+                4000000.0003,-5000000.0005,-19999.998,-19999.999,19999.996,19999.997,\
+                -3000000.0001,-2000000.0004\n";
+    let by_hand = NmasRow {
+        date: 20_960_229,
+        run: 98,
+        interval: 287,
+        account: 4_275_878_552,
+        contract: 3_405_697_037,
+        payment_type: PaymentType::Enablement,
+        region: Region::Sa1,
+        factor: 654_321,
+        payment: 40_000_000_003,
+        recovery: -50_000_000_005,
+        own_ace: -19_999_998,
+        region_ace: -19_999_999,
+        own_asoe: 19_999_996,
+        region_asoe: 19_999_997,
+        by_ace: -30_000_000_001,
+        by_asoe: -20_000_000_004,
+    };
+    assert_eq!(fervolatro::nmas_row(line.as_bytes(), 0), Ok(by_hand));
+    let past = fervolatro::nmas_row(line.as_bytes(), 1 << 32);
+    assert_eq!(past, refused(Reason::PastEnd, 0));
+}
+
+/// The place is the number of the first line at fault; 0 is the first line's.
+#[test]
+fn bad_lines_are_refused_with_19() {
+    let cut_short = fervolatro::nmas_rows(&FILE.as_bytes()[..FILE.len() - 1]);
+    assert_eq!(cut_short, refused(Reason::NmasLine, 2));
+    let said = fervolatro::nmas_rows(b"\n").map_err(|refusal| refusal.to_string());
+    let words = "text not of the file's form, out of the book's or statement's ranges, a benefit \
+                 factor of 0, or RECOVERY_AMOUNT not the sum of the last two";
+    assert_eq!(said, Err(format!("refusal 19 at 0: {words}")));
 }

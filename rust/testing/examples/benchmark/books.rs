@@ -231,6 +231,17 @@ pub fn of(sizes: Sizes) -> Asked {
     Asked::new(&name, &book, book.energies[0].account)
 }
 
+/// The contracts of the book with the longest statement, and next to nothing else: what
+/// they are shared by, and no constraint.
+pub fn of_contracts() -> Asked {
+    let mut random = Random::new(SEED);
+    let (mut book, account) = book_of_longest_statement(&mut random);
+    book.constraints.clear();
+    book.units.clear();
+    leave_no_pool_empty(&mut random, &mut book);
+    Asked::new("16 contracts", &book, account)
+}
+
 /// Gives every pool an amount: one of nothing takes less time, and the random books of
 /// the tests have many.
 fn leave_no_pool_empty(random: &mut Random, book: &mut Book) {

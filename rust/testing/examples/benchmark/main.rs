@@ -1,5 +1,6 @@
 //! Times the library beside the fast Rust version (`testing/src/fast`), in one run and on the
-//! same books and dispatch rows, and sees how much stack the library's calls use.
+//! same books, dispatch rows and reconciliation files, and sees how much stack the library's
+//! calls use.
 //!
 //!     tests/native                  (only where the machine is not x86-64)
 //!     cd rust && cargo run --release --offline --features native --example benchmark
@@ -10,6 +11,7 @@
 mod books;
 mod dispatch;
 mod locked;
+mod nmas;
 mod stack;
 mod timing;
 
@@ -62,6 +64,7 @@ fn main() {
     chosen_accounts(&books[2]);
     let pairs = books::pairs();
     locked::print(&pairs, &[&books[1], &books[2], &books[3]]);
+    nmas::print(&books[3], &pairs.usual[2]);
     growth();
     stack::print(books.iter().chain(&pairs.usual));
 }

@@ -11,9 +11,9 @@ use super::layout::{
 use crate::{Books, Refusal};
 
 const SHORTEST: usize = 84;
-const ENERGY_LIMIT: u32 = 20_000_000;
+pub(super) const ENERGY_LIMIT: u32 = 20_000_000;
 pub(super) const MONEY_LIMIT: u64 = 50_000_000_000;
-const WHOLE: u64 = 1_000_000;
+pub(super) const WHOLE: u64 = 1_000_000;
 
 /// The kind of a contract that is shared by the locked book's energies.
 pub(super) const TEST: u8 = 2;

@@ -2,14 +2,15 @@
 //! against. Nothing is allocated, and no unit row or energy row is passed more than
 //! twice, once to check it and once to settle it; nor is any of the locked book's.
 //!
-//! It is no second reference: `tests/fast.rs` and `tests/dispatch.rs` compare it with
-//! that one.
+//! It is no second reference: `tests/fast.rs`, `tests/dispatch.rs` and `tests/nmas.rs`
+//! compare it with that one.
 
 mod balance;
 mod check;
 mod dispatch;
 mod layout;
 mod lines;
+mod nmas;
 mod shares;
 mod statement;
 
@@ -17,4 +18,5 @@ pub use balance::balance;
 pub use check::check;
 pub use dispatch::{base_cost, payment};
 pub use lines::{lines, Fields};
+pub use nmas::{nmas, nmas_row, nmas_rows};
 pub use statement::{length, statement};

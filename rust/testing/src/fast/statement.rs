@@ -15,35 +15,28 @@ pub fn length(books: Books, account: u32) -> Result<usize, Refusal> {
 
 pub fn statement(books: Books, account: u32, buffer: &mut [u8]) -> Result<usize, Refusal> {
     let counted = counted(books, account)?;
-    let Counted {
-        sections,
-        own,
-        locked,
-        lines,
-    } = &counted;
     let Some((header, slots)) = buffer.get_mut(..counted.length()).and_then(halved) else {
         return Err(Refusal {
             number: 13,
             place: 0,
         });
     };
-    *header = header_of(sections, account, *lines);
-    let energies = own.energies();
+    *header = header_of(&counted.sections, account, counted.lines);
+    let (energies, locked) = counted.energies();
     Settling {
-        // Without a locked book no contract asks for it.
-        locked: locked.map_or(energies, |of| of.energies()),
         energies,
+        locked,
         account,
         slots: slots.iter_mut(),
     }
-    .write(sections);
+    .write(&counted.sections);
     Ok(counted.length())
 }
 
 /// An accepted book that has a statement for the account: its sections, the account's
 /// energy rows there and in the locked book, and how many lines the statement has.
-struct Counted<'b> {
-    sections: Sections<'b>,
+pub(super) struct Counted<'b> {
+    pub sections: Sections<'b>,
     own: Rows<'b>,
     locked: Option<Rows<'b>>,
     lines: usize,
@@ -72,9 +65,9 @@ impl<'b> Rows<'b> {
 
 /// What an account has of energy in each region, and what all have.
 #[derive(Clone, Copy)]
-struct Energies {
-    own: Totals,
-    total: Totals,
+pub(super) struct Energies {
+    pub own: Totals,
+    pub total: Totals,
 }
 
 impl Counted<'_> {
@@ -83,12 +76,21 @@ impl Counted<'_> {
     fn length(&self) -> usize {
         24 + 24 * self.lines
     }
+
+    /// The account's energies, and those of the locked book. Without a locked book no
+    /// contract asks for it.
+    #[inline(always)]
+    pub fn energies(&self) -> (Energies, Energies) {
+        let energies = self.own.energies();
+        let locked = self.locked.map_or(energies, |of| of.energies());
+        (energies, locked)
+    }
 }
 
 /// Looks for all that comes before 12, which is not looked for: no line can pass the
 /// limit, as a share of a pool is at most the pool.
 #[inline(always)]
-fn counted(books: Books, account: u32) -> Result<Counted, Refusal> {
+pub(super) fn counted(books: Books, account: u32) -> Result<Counted, Refusal> {
     let (mut unit_lines, mut has_locked_units) = (0, false);
     let read = checked(books, |of, owner, mode| match of {
         Of::Current => {

@@ -13,6 +13,6 @@ mod run;
 mod sources;
 
 pub use masks::{constraint_over, every_mask, zero_total_over};
-pub use question::{Answer, Call, Given, Side, FAST, LIBRARY, REFERENCE};
+pub use question::{Answer, Call, File, Given, Side, FAST, LIBRARY, REFERENCE};
 pub use run::{Family, Run, Units, Wanted};
 pub use sources::asked_of;

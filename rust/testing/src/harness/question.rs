@@ -2,10 +2,11 @@
 
 use crate::fast::{self, Fields};
 use crate::reference::Kind;
-use crate::{library, reference, Balance, Books, Entry, Heading, Refusal};
+use crate::{library, reference, Balance, Books, Entry, Heading, NmasRow, Refusal};
 
-/// A call, with what it takes beside the bytes: an account, a pool, the index of a line,
-/// a constraint's id and a service, and how many bytes the buffer has.
+/// A call, with what it takes beside the bytes: an account, a pool, the index of a line or
+/// a row, a constraint's id and a service, whose file it is, and how many bytes the buffer
+/// has.
 #[derive(Clone, Copy, Debug)]
 pub enum Call {
     Check,
@@ -23,13 +24,27 @@ pub enum Call {
     WholeRewrite,
     Payment { service: u64 },
     BaseCost { id: u32, service: u64 },
+    Nmas { file: File, room: usize },
+    WholeNmas { file: File },
+    NmasRows,
+    NmasRow { index: u64 },
+}
+
+/// Whose reconciliation file is asked for, and for which payment type.
+#[derive(Clone, Copy, Debug)]
+pub struct File {
+    pub account: u32,
+    pub payment_type: u64,
 }
 
 impl Call {
     /// How many bytes the buffer has; none where the call takes no buffer.
     pub fn room(self) -> usize {
         match self {
-            Call::Statement { room, .. } | Call::Unpack { room } | Call::Rewrite { room } => room,
+            Call::Statement { room, .. }
+            | Call::Unpack { room }
+            | Call::Rewrite { room }
+            | Call::Nmas { room, .. } => room,
             _ => 0,
         }
     }
@@ -60,6 +75,10 @@ impl Call {
             Call::WholeRewrite => "whole rewrite",
             Call::Payment { .. } => "payment",
             Call::BaseCost { .. } => "base cost",
+            Call::Nmas { .. } => "file",
+            Call::WholeNmas { .. } => "whole file",
+            Call::NmasRows => "rows of a file",
+            Call::NmasRow { .. } => "row of a file",
         }
     }
 }
@@ -78,13 +97,15 @@ pub enum Answer {
     Line(Entry),
     Lines(Vec<Entry>),
     Amount(u64),
+    Rows(usize),
+    Row(NmasRow),
 }
 
 /// What a call is answered by.
 pub type Given = Result<Answer, Refusal>;
 
-/// One that answers: the call, the bytes it is about, the buffer it may write. A statement
-/// and dispatch rows stand in the place of the book.
+/// One that answers: the call, the bytes it is about, the buffer it may write. A
+/// statement, dispatch rows and a file's text stand in the place of the book.
 #[derive(Clone, Copy)]
 pub struct Side {
     pub name: &'static str,
@@ -118,6 +139,14 @@ macro_rules! side {
                 Call::BaseCost { id, service } => {
                     $of::base_cost(books.book, id, service).map(Answer::Amount)
                 }
+                Call::Nmas { file, .. } => {
+                    $of::nmas(books, file.account, file.payment_type, buffer).map(Answer::Length)
+                }
+                Call::WholeNmas { file } => {
+                    $of::whole_nmas(books, file.account, file.payment_type).map(Answer::Bytes)
+                }
+                Call::NmasRows => $of::nmas_rows(books.book).map(Answer::Rows),
+                Call::NmasRow { index } => $of::nmas_row(books.book, index).map(Answer::Row),
             },
         }
     };
@@ -142,6 +171,11 @@ pub const FAST: Side = Side {
         Call::BaseCost { id, service } => {
             fast::base_cost(books.book, id, service).map(Answer::Amount)
         }
+        Call::Nmas { file, .. } => {
+            fast::nmas(books, file.account, file.payment_type, buffer).map(Answer::Length)
+        }
+        Call::NmasRows => fast::nmas_rows(books.book).map(Answer::Rows),
+        Call::NmasRow { index } => fast::nmas_row(books.book, index).map(Answer::Row),
         _ => panic!("the fast version has no {}", call.name()),
     },
 };

@@ -34,8 +34,8 @@ pub struct Wanted<'w> {
     pub seen: Vec<(String, u64)>,
 }
 
-/// How often each answer came: 0, or a refusal's number, of which 18 is the highest.
-type Counts = [u64; 19];
+/// How often each answer came: 0, or a refusal's number, of which 19 is the highest.
+type Counts = [u64; 20];
 
 pub struct Run {
     pub random: Random,

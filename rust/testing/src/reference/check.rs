@@ -12,13 +12,13 @@ use crate::{Books, Refusal};
 const SHORTEST: usize = 84;
 
 /// The most energy of a row or a region, in kWh.
-const ENERGY_LIMIT: i32 = 20_000_000;
+pub(super) const ENERGY_LIMIT: i32 = 20_000_000;
 
 /// Factors and usage are in millionths: this is one whole.
-const WHOLE: i32 = 1_000_000;
+pub(super) const WHOLE: i32 = 1_000_000;
 
 /// The most money of a cost or a payment.
-const MONEY_LIMIT: i64 = 50_000_000_000;
+pub(super) const MONEY_LIMIT: i64 = 50_000_000_000;
 
 /// "Numbers 1 to 10 come from every call on a book."
 pub fn check<'b>(books: impl Into<Books<'b>>) -> Result<(), Refusal> {

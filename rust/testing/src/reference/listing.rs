@@ -43,9 +43,15 @@ fn listed_line(line: &Line) -> String {
 
 /// "Dollars to four places, any minus first."
 fn dollars(amount: i64) -> String {
-    let minus = if amount < 0 { "-" } else { "" };
-    let size = amount.unsigned_abs();
-    format!("{minus}{}.{:04}", size / 10_000, size % 10_000)
+    decimal(amount, 4)
+}
+
+/// A number of so many decimal places, any minus first.
+pub(super) fn decimal(number: i64, places: usize) -> String {
+    let minus = if number < 0 { "-" } else { "" };
+    let size = number.unsigned_abs();
+    let one = 10_u64.pow(places as u32);
+    format!("{minus}{}.{:0places$}", size / one, size % one)
 }
 
 #[cfg(test)]

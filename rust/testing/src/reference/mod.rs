@@ -9,6 +9,7 @@ mod check;
 mod dispatch;
 mod listing;
 mod locked;
+mod nmas;
 mod reading;
 mod statement;
 
@@ -17,6 +18,7 @@ pub use balance::{accounts, balance, balances, pools, pools_by_number, Balances,
 pub use check::check;
 pub use dispatch::{base_cost, costs, payment, Costs};
 pub use listing::{listed, listing};
+pub use nmas::{nmas, nmas_row, nmas_row_of, nmas_rows, read_nmas, spelled, whole_nmas};
 pub use reading::{header, line, lines, read, rewrite, unpack, whole_rewrite};
 pub use statement::{length, settle, statement, whole_statement};
 

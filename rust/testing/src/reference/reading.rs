@@ -3,7 +3,7 @@
 
 use super::check::period_is_in_range;
 use super::refuse_unless;
-use super::statement::{is_within_limit, write};
+use super::statement::{is_within_limit, lend, write};
 use crate::field::Field;
 use crate::statement::{Header, Line, Statement};
 use crate::{Entry, Heading, Refusal};
@@ -44,9 +44,7 @@ pub fn lines(bytes: &[u8]) -> Result<Vec<Entry>, Refusal> {
 pub fn unpack(bytes: &[u8], buffer: &mut [u8]) -> Result<usize, Refusal> {
     let lines = lines(bytes)?.into_iter();
     let numbers: Vec<u8> = lines.flat_map(numbers_of).flatten().collect();
-    refuse_unless(13, buffer.len() >= numbers.len())?;
-    buffer[..numbers.len()].copy_from_slice(&numbers);
-    Ok(numbers.len())
+    lend(&numbers, buffer)
 }
 
 /// "id u32; part u8; regions u8; ... unit u32; ... amount i64", "little-endian".

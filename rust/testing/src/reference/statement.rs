@@ -38,19 +38,30 @@ pub fn whole_statement<'b>(books: impl Into<Books<'b>>, account: u32) -> Result<
 /// place, ... and the lent buffer holds what it held. Success writes exactly the
 /// statement at the front and answers its length; later bytes stay."
 pub(super) fn write(statement: &Statement, buffer: &mut [u8]) -> Result<usize, Refusal> {
-    let written = statement.encode();
+    lend(&statement.encode(), buffer)
+}
+
+/// The same for any bytes that a call writes.
+pub(super) fn lend(written: &[u8], buffer: &mut [u8]) -> Result<usize, Refusal> {
     refuse_unless(13, buffer.len() >= written.len())?;
-    buffer[..written.len()].copy_from_slice(&written);
+    buffer[..written.len()].copy_from_slice(written);
     Ok(written.len())
 }
 
 /// The statement itself, without a buffer: all refusals but 13.
 pub fn settle<'b>(books: impl Into<Books<'b>>, account: u32) -> Result<Statement, Refusal> {
     let read = read(books)?;
-    refuse_unless(11, is_named(&read, account))?;
-    let statement = Settlement::of(&read, account).statement();
-    refuse_unless(12, statement.lines.iter().all(is_within_limit))?;
+    let (_, statement) = settled(&read, account)?;
     Ok(statement)
+}
+
+/// The books that were accepted, seen by an account, and its statement: refusals 11 and 12.
+pub(super) fn settled(read: &Read, account: u32) -> Result<(Settlement<'_>, Statement), Refusal> {
+    refuse_unless(11, is_named(read, account))?;
+    let settlement = Settlement::of(read, account);
+    let statement = settlement.statement();
+    refuse_unless(12, statement.lines.iter().all(is_within_limit))?;
+    Ok((settlement, statement))
 }
 
 pub(super) fn is_within_limit(line: &Line) -> bool {
@@ -87,10 +98,19 @@ impl Energies {
     }
 }
 
+/// What an account has of a contract in a region, and the energies that this is by.
+pub(super) struct Share {
+    pub region: usize,
+    pub own: Energy,
+    pub total: Energy,
+    pub by_ace: i128,
+    pub by_asoe: i128,
+}
+
 /// An accepted book seen by one account, with the energies of each book that is read.
 pub(super) struct Settlement<'b> {
-    book: &'b Book,
-    account: u32,
+    pub book: &'b Book,
+    pub account: u32,
     energies: PerBook<Energies>,
 }
 
@@ -172,18 +192,33 @@ impl<'b> Settlement<'b> {
     /// "Contracts, each benefiting region rising, 9 then 10." "For 9 and 10 the one
     /// region's bit."
     fn contract_lines(&self, contract: &Contract) -> Vec<Line> {
+        let shares = self.shares(contract).into_iter();
+        let lines = shares.flat_map(|share| {
+            let regions = 1 << share.region;
+            [
+                line(contract.id, 9, regions, share.by_ace),
+                line(contract.id, 10, regions, share.by_asoe),
+            ]
+        });
+        lines.collect()
+    }
+
+    /// The account's shares of a contract, "each benefiting region rising".
+    pub(super) fn shares(&self, contract: &Contract) -> Vec<Share> {
         let energies = self.energies.for_contract(contract);
         let benefiting = (0..5).filter(|&region| contract.factors[region] > 0);
-        benefiting
-            .flat_map(|region| {
-                let halves = Halves::of(contract, region);
-                let (own, total) = (energies.own[region], energies.total[region]);
-                [
-                    line(contract.id, 9, 1 << region, halves.by_ace(own, total)),
-                    line(contract.id, 10, 1 << region, halves.by_asoe(own, total)),
-                ]
-            })
-            .collect()
+        let shares = benefiting.map(|region| {
+            let halves = Halves::of(contract, region);
+            let (own, total) = (energies.own[region], energies.total[region]);
+            Share {
+                region,
+                own,
+                total,
+                by_ace: halves.by_ace(own, total),
+                by_asoe: halves.by_asoe(own, total),
+            }
+        });
+        shares.collect()
     }
 
     /// The account's energies in the current book and those of all, over the regions of a
@@ -214,7 +249,11 @@ fn line(id: u32, part: u8, regions: u8, amount: i128) -> Line {
         id,
         part,
         regions,
-        amount: i64::try_from(amount).expect("a share of a pool fits 64 bits"),
+        amount: in_64_bits(amount),
         ..Line::default()
     }
+}
+
+pub(super) fn in_64_bits(amount: i128) -> i64 {
+    i64::try_from(amount).expect("a share of a pool fits 64 bits")
 }

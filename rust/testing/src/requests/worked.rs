@@ -1,5 +1,5 @@
-//! The worked interval of the scope document, field by field, and what other books
-//! are written down with.
+//! The worked interval of the scope document, field by field, the guide's restart contract,
+//! and what other books are written down with.
 
 use crate::book::{Book, Constraint, Contract, EnergyRow, Header, UnitRow};
 use crate::statement::{self, Line, Statement};
@@ -201,3 +201,36 @@ pub fn small_halves_book() -> Book {
     ];
     book
 }
+
+/// The restart contract of the guide (000, A.4.1): $100, of which NSW1 has 0.3 of the benefit and QLD1 0.7, on 01/01/2025 in
+/// period 100. Its energies are in MWh, ours in kWh; account 7 is its CRMP, and account 9
+/// has the rest of each region: NSW1 -450 + 40 and 500 - 30, QLD1 -470 + 6 and 440 - 17.
+/// Run, contract id and kind of payment are ours, the paper has none.
+pub fn paper_book() -> Book {
+    let energies = [
+        energy_row(7, 0, [-40_000, 30_000, 0, 0]),
+        energy_row(7, 1, [-6_000, 17_000, 0, 0]),
+        energy_row(9, 0, [-410_000, 470_000, 0, 0]),
+        energy_row(9, 1, [-464_000, 423_000, 0, 0]),
+    ];
+    let mut book = book_of(&[], &[], &energies);
+    book.contracts = vec![contract(1, 1, 1_000_000, [300_000, 700_000, 0, 0, 0])];
+    book.header.date = 20_250_101;
+    book.header.interval = 100;
+    book
+}
+
+/// The first line of account 7's reconciliation file of that book.
+///
+/// NSW1: 100 x 0.3 = 30, halves of 15. By ACE 15 x 40 / 450 = 1.33333, by ASOE 15 x 30 /
+/// 500 = 0.9: together 2.2333, as the paper has it.
+pub const PAPER_NSW1: &str = "20250101,1,100,7,RESTART,1,AVAILABILITY,NSW1,0.300000,100.0000,\
+                          -2.2333,-40.000,-450.000,30.000,500.000,-1.3333,-0.9000\n";
+
+/// The second line, and the last.
+///
+/// QLD1: 100 x 0.7 = 70, halves of 35. By ACE 35 x 6 / 470 = 0.446809, by ASOE 35 x 17 /
+/// 440 = 1.352273: 0.4468 + 1.3523 = 1.7991. The paper prints 1.799, and for both regions
+/// 4.0324, which is 2.2333 + 1.7991.
+pub const PAPER_QLD1: &str = "20250101,1,100,7,RESTART,1,AVAILABILITY,QLD1,0.700000,100.0000,\
+                          -1.7991,-6.000,-470.000,17.000,440.000,-0.4468,-1.3523\n";

@@ -6,10 +6,12 @@ use fervolatro_testing::book::{
     Constraint, Contract, EnergyRow, Header, RegionEntry, Sections, UnitRow,
 };
 use fervolatro_testing::field::Field;
+use fervolatro_testing::reference::spelled;
 use fervolatro_testing::requests::edges;
 use fervolatro_testing::requests::generate::Sizes;
-use fervolatro_testing::statement;
+use fervolatro_testing::{statement, NmasRow};
 
+use crate::columns::{words_of, WORDS};
 use crate::edge::{comments_removed, HEADER};
 use crate::repository::{without_groups, Repository};
 
@@ -29,6 +31,9 @@ const CALLS: &str = "crates/reading/specs/Calls.antt";
 const ANSWERS: &str = "crates/answers/specs/Answers.antt";
 const KINDS: &str = "crates/market/specs/Kinds.antt";
 const DISPATCH: &str = "crates/dispatch/specs/Dispatch.antt";
+const NMAS: &str = "crates/nmas_reading/specs/Reading.antt";
+const NMAS_FILE: &str = "crates/nmas_file/specs/File.antt";
+const NMAS_LENGTH: &str = "crates/nmas_file/proofs/Length.antt";
 const MARKET: &str = "crates/market/src/lib.rt";
 const MANIFEST: &str = "rust/Cargo.toml";
 
@@ -123,6 +128,23 @@ const PLACES: &[(&str, &str)] = &[
         "atRecord {REFUSED_DISPATCH_ROW} 0 {DISPATCH_ROW_SIZE} (firstBad",
     ),
     (
+        NMAS,
+        "rowsRead (part rs t) = rows.Refused {REFUSED_NMAS_LINE} (length rs)",
+    ),
+    (
+        NMAS,
+        "rowRead (part rs t) index = row.Refused {REFUSED_NMAS_LINE} (length rs)",
+    ),
+    (
+        NMAS,
+        "numberedRow (past n) = row.Refused {REFUSED_PAST_END} 0",
+    ),
+    (
+        NMAS_FILE,
+        "cond (leb 3 paymentType) (refuses {REFUSED_PAST_END} 0)",
+    ),
+    (NMAS_LENGTH, "gives xs → length xs ≤ {LARGEST_NMAS}"),
+    (
         LINES,
         "cond (raises (r .service)) {PART_CONTINGENCY_ASOE} {PART_CONTINGENCY_ACE}",
     ),
@@ -189,22 +211,24 @@ pub fn constants(repository: &Repository) -> Vec<Constant> {
 pub fn unlike_the_rules(repository: &Repository) -> Vec<String> {
     let constants = constants(repository);
     let places = places(&constants);
-    let numbers = numbers_of_the_package();
+    let of_the_package = numbers_of_the_package().into_iter();
+    let numbers: Vec<(String, i64, &str)> = of_the_package
+        .map(|(name, number)| (name.to_owned(), number, "the package"))
+        .chain(payment_types(repository))
+        .collect();
     let mut complaints = Vec::new();
     for (file, text) in &places {
         complaints.extend(why_not_there(repository, file, text, &constants));
     }
-    for (name, number) in &numbers {
+    for (name, number, whose) in &numbers {
         let value = value_of(&constants, name);
         if value != number.to_string() {
-            complaints.push(format!(
-                "{FRONT}{name} is {value}, the package has {number}"
-            ));
+            complaints.push(format!("{FRONT}{name} is {value}, {whose} has {number}"));
         }
     }
     let placed = places.iter().flat_map(|(_, text)| names_in(text));
     let compared: Vec<&str> = placed
-        .chain(numbers.iter().map(|(name, _)| *name))
+        .chain(numbers.iter().map(|(name, ..)| name.as_str()))
         .collect();
     let names = constants.iter().map(|constant| constant.name.as_str());
     let free = names.filter(|name| !compared.contains(name));
@@ -250,8 +274,8 @@ fn stands_in(text: &str, words: &str) -> bool {
     rests.any(|rest| !words.ends_with(is_digit) || !rest.starts_with(is_digit))
 }
 
-/// All places: those that are written down above, and those of services, regions and
-/// modes, which have the names of the code and the order of the rules.
+/// All places: those that are written down above, and those of services, regions, modes
+/// and payment types, which have the names of the code and the order of the rules.
 fn places(constants: &[Constant]) -> Vec<(&'static str, String)> {
     let written = PLACES.iter().map(|&(file, text)| (file, text.to_owned()));
     let mut places: Vec<(&str, String)> = written.collect();
@@ -259,6 +283,7 @@ fn places(constants: &[Constant]) -> Vec<(&'static str, String)> {
         ("SERVICE_", "Service", "Service { number: ", " }"),
         ("REGION_", "Region", "Region { number: ", " }"),
         ("MODE_", "u8", "", ""),
+        ("PAYMENT_TYPE_", "u8", "", ""),
     ];
     for (front, kind, before, after) in kinds {
         places.extend(group_of(constants, front).iter().map(|name| {
@@ -290,11 +315,21 @@ fn group_of<'a>(constants: &'a [Constant], front: &str) -> Vec<&'a str> {
     groups.flatten().next().unwrap_or_default()
 }
 
+/// The payment types, which the definitions list by their words: the number of each is
+/// its place there.
+fn payment_types(repository: &Repository) -> impl Iterator<Item = (String, i64, &'static str)> {
+    let words = words_of(repository, "paymentTypes").into_iter();
+    let named = words.map(|word| format!("PAYMENT_TYPE_{word}"));
+    named.zip(0..).map(|(name, number)| (name, number, WORDS))
+}
+
 /// What this package has for a constant: the sizes of its records, and the ends of its
 /// fields' ranges.
 fn numbers_of_the_package() -> Vec<(&'static str, i64)> {
     let most = Sizes::LARGEST;
     let sections = Sections::of(&largest_header());
+    // Of a reconciliation file: one for each contract and region.
+    let rows = most.contracts * sections.regions.count;
     let lines = highest(edges::STATEMENT_HEADER, 14);
     let sizes = [
         ("BOOK_HEADER_SIZE", Header::SIZE),
@@ -311,6 +346,8 @@ fn numbers_of_the_package() -> Vec<(&'static str, i64)> {
         ("STATEMENT_HEADER_SIZE", statement::Header::SIZE),
         ("LINE_SIZE", statement::Line::SIZE),
         ("LARGEST_BOOK", sections.book_length()),
+        ("MOST_NMAS_ROWS", rows),
+        ("LARGEST_NMAS", rows * spelled(&longest_row()).len()),
     ];
     let mut numbers: Vec<(&str, i64)> = Vec::new();
     numbers.extend(sizes.map(|(name, size)| (name, size as i64)));
@@ -319,6 +356,30 @@ fn numbers_of_the_package() -> Vec<(&'static str, i64)> {
     numbers.push(("LARGEST_STATEMENT", header + lines * line));
     numbers.push(("LIMIT", highest(edges::LINE, 16)));
     numbers
+}
+
+/// A row of a reconciliation file whose line is the longest that is read: every number is
+/// at the end of its range.
+fn longest_row() -> NmasRow {
+    let [money, factor] = [8, 16].map(|at| highest(edges::CONTRACT, at));
+    let energy = highest(edges::ENERGY_ROW, 12);
+    NmasRow {
+        date: highest(edges::HEADER, 8),
+        run: highest(edges::HEADER, 12),
+        interval: highest(edges::HEADER, 6),
+        account: highest(edges::ENERGY_ROW, 0),
+        contract: highest(edges::CONTRACT, 0),
+        factor,
+        payment: money,
+        recovery: -2 * money,
+        own_ace: -energy,
+        region_ace: -energy,
+        own_asoe: energy,
+        region_asoe: energy,
+        by_ace: -money,
+        by_asoe: -money,
+        ..NmasRow::default()
+    }
 }
 
 /// The header of a book of the most records.

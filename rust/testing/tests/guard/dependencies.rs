@@ -4,8 +4,12 @@ use crate::repository::Repository;
 
 /// Listed and not named: their types are met through another crate's, and the check
 /// wants them all the same.
-const MET_THROUGH_OTHERS: [(&str, &str); 2] =
-    [("fervolatro", "sections"), ("fervolatro", "statement")];
+const MET_THROUGH_OTHERS: [(&str, &str); 4] = [
+    ("fervolatro", "sections"),
+    ("fervolatro", "statement"),
+    ("fervolatro", "nmas"),
+    ("nmas_reading", "decimal_reading"),
+];
 
 pub fn unused(repository: &Repository) -> Vec<String> {
     let lines = repository.text("crates.txt").lines();

@@ -157,6 +157,14 @@ fn fields_in_code<'a>(code: &'a str, name: &str) -> Vec<(&'a str, &'a str)> {
     let fields = body.map_or("", |(body, _)| body).split(',');
     let fields = fields.filter_map(|field| field.trim().strip_prefix("pub ")?.split_once(": "));
     fields
-        .map(|(name, kind)| (number_in_c(kind), name))
+        .map(|(name, kind)| (number_in_c(kind), name_in_c(name)))
         .collect()
+}
+
+/// A field's name in C. There `type` is one; in the code it is a word of the language.
+fn name_in_c(name: &str) -> &str {
+    match name {
+        "payment_type" => "type",
+        other => other,
+    }
 }

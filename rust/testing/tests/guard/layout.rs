@@ -4,6 +4,7 @@
 
 use std::collections::BTreeMap;
 
+use crate::columns::{columns, COLUMNS, TITLE};
 use crate::constants::{constants, Constant, FRONT};
 use crate::page::{code_spans, rows, Row};
 use crate::repository::{without_groups, Repository};
@@ -28,9 +29,11 @@ const READING: &str = "crates/parsing/specs/Parsing.antt";
 const BOOK: &str = "crates/book/specs/Header.antt";
 const UNITS: &str = "crates/ground/specs/Units.antt";
 const DISPATCH: &str = "crates/dispatch/specs/Dispatch.antt";
+const TABLE: &str = "crates/book/specs/Table.antt";
 
 /// The files that have the ranges.
-const RULES: [&str; 7] = [
+const RULES: [&str; 8] = [
+    COLUMNS,
     DISPATCH,
     BOOK,
     READING,
@@ -147,7 +150,13 @@ pub fn unlike_the_definitions(repository: &Repository) -> Vec<String> {
         let why = why_unlike(repository, record, &rows);
         why.into_iter().map(move |why| format!("{about}{why}"))
     });
-    complaints.collect()
+    let of_a_file = rows.iter().filter(|row| row.under == TITLE);
+    let ranges = of_a_file.flat_map(|row| {
+        let about = format!("{PAGE}, {}: ", row.cell("Name").unwrap_or(""));
+        let why = outside_the_rules(repository, row);
+        why.into_iter().map(move |why| format!("{about}{why}"))
+    });
+    complaints.chain(ranges).collect()
 }
 
 /// The numbers of a field's range that no rule has.
@@ -270,7 +279,7 @@ fn limits(repository: &Repository) -> Option<Vec<(&'static str, usize)>> {
     let [constraints, units, energies, contracts] = counts;
     let (constraints, units) = (constraints?, units?);
     let (energies, contracts) = (energies?, contracts?);
-    let shortest = number_after(repository, "crates/book/specs/Table.antt", "unless (leb ")?;
+    let shortest = number_after(repository, TABLE, "unless (leb ")?;
     let lines = number_after(repository, UNITS, "mostLines = ")?;
     let header = number_after(repository, READING, "lineFrom i = ")?;
     let amount = number_after(repository, UNITS, "moneyLimit = ")?;
@@ -291,6 +300,7 @@ fn limits(repository: &Repository) -> Option<Vec<(&'static str, usize)>> {
         ("cost, payment, FPP pool or a line's amount in size", amount),
     ];
     limits.extend(dispatch_limits(repository)?);
+    limits.extend(file_limits(repository, contracts)?);
     Some(limits)
 }
 
@@ -307,6 +317,22 @@ fn dispatch_limits(repository: &Repository) -> Option<[(&'static str, usize); 4]
             "price times enablement of a dispatch row",
             limit(DISPATCH, "productLimit = ")?,
         ),
+    ])
+}
+
+/// A row for each contract and each region, every field of it as long as it can be, and a
+/// byte behind each.
+fn file_limits(repository: &Repository, contracts: usize) -> Option<[(&'static str, usize); 3]> {
+    let regions = number_after(repository, TABLE, "entryOk (B .entry i))")?;
+    let rows = contracts * regions;
+    let line: usize = columns(repository)
+        .iter()
+        .map(|column| column.longest + 1)
+        .sum();
+    Some([
+        ("rows of a reconciliation file that is written", rows),
+        ("line of a reconciliation file, bytes", line),
+        ("reconciliation file that is written, bytes", rows * line),
     ])
 }
 
@@ -348,18 +374,24 @@ fn long_numbers(text: &str) -> impl Iterator<Item = &str> {
 const MARKET: &str = "crates/market/src/lib.rt";
 const POOLS: &str = "crates/balance/specs/Pools.antt";
 
-/// Services, regions and modes that the page numbers or names otherwise than the code's
-/// constants, and parts that it puts in another pool than the definitions.
+/// Services, regions, modes and payment types that the page numbers or names otherwise
+/// than the code's constants, and parts that it puts in another pool than the definitions.
 pub fn other_numbers(repository: &Repository) -> Vec<String> {
     let rows = rows(repository.text(PAGE));
     let market = repository.text(MARKET);
     let mut complaints = Vec::new();
-    for (title, front, end) in [
-        ("Services", ": Service = Service { number: ", " };"),
-        ("Regions", ": Region = Region { number: ", " };"),
-        ("Modes", ": u8 = ", ";"),
+    for (title, kind, front, end) in [
+        (
+            "Services",
+            "Service",
+            ": Service = Service { number: ",
+            " };",
+        ),
+        ("Regions", "Region", ": Region = Region { number: ", " };"),
+        ("Modes", "Mode", ": u8 = ", ";"),
+        ("Payment types", "PaymentType", ": u8 = ", ";"),
     ] {
-        let constants = market.lines().filter_map(|line| {
+        let constants = of_kind(market, kind).lines().filter_map(|line| {
             let (name, number) = line.trim().strip_suffix(end)?.split_once(front)?;
             let name = name.strip_prefix("pub const ")?;
             Some((number.to_owned(), name.replace('_', " ").to_lowercase()))
@@ -391,10 +423,18 @@ pub fn other_numbers(repository: &Repository) -> Vec<String> {
     complaints
 }
 
+/// What the code has of a kind: the constants and functions that belong to it.
+fn of_kind<'a>(code: &'a str, kind: &str) -> &'a str {
+    let begin = format!("\nimpl {kind} {{\n");
+    let of_kind = code.split_once(&begin).map_or("", |(_, rest)| rest);
+    of_kind.split("\n}").next().unwrap_or(of_kind)
+}
+
 /// Number and name of a row, in small letters.
 fn numbered(row: &Row) -> (String, String) {
     let name = row.cells.get(1).map_or("", String::as_str);
-    (row.first().to_owned(), name.to_lowercase())
+    let name = name.trim_matches('`').to_lowercase();
+    (row.first().to_owned(), name)
 }
 
 /// Parts that the page puts in another pool than the definitions.
@@ -427,7 +467,7 @@ fn parts_elsewhere(repository: &Repository, rows: &[Row]) -> Vec<String> {
 }
 
 /// How many refusals there are.
-pub const REFUSALS: usize = 18;
+pub const REFUSALS: usize = 19;
 
 /// A row of one of the header's tables of refusals.
 #[derive(Debug, PartialEq)]

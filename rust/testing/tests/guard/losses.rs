@@ -3,6 +3,7 @@
 
 use std::rc::Rc;
 
+use crate::columns;
 use crate::constants;
 use crate::dependencies;
 use crate::edge;
@@ -673,7 +674,11 @@ fn an_edge_of_another_shape_is_noticed() {
             "fn fervolatro_check<'a>(book: &'a [u8])",
             "fervolatro_check",
         ),
-        ("index: u64", "index: u32", "fervolatro_line"),
+        (
+            "bytes: &[u8], index: u64",
+            "bytes: &[u8], index: u32",
+            "fervolatro_line",
+        ),
         ("number: u64", "number: u32", "fervolatro_balance"),
         (
             "fn fervolatro_rewrite",
@@ -766,6 +771,7 @@ fn a_refusal_in_other_words_is_noticed() {
         ("| 17 when ", "| 19 when ", "NoLocked"),
         ("then 18 when the locked", "then 18 when a locked", "Locked"),
         ("no book read names", "neither book names", "NoAccount"),
+        ("reading gives 19,", "reading gives 20,", "NmasLine"),
     ] {
         watch.notices(about, |changed| replace(changed, rules::PAGE, old, new));
     }
@@ -866,6 +872,39 @@ fn a_field_that_stands_elsewhere_is_noticed() {
     }
 }
 
+/// Each field of today's page and header, its name and its decimals.
+#[test]
+fn a_field_of_a_file_that_is_another_is_noticed() {
+    let repository = Repository::read();
+    let watch = Watch::over(&repository, columns::unlike_the_definitions);
+    let columns = columns::columns(&repository);
+    assert_eq!(columns.len(), 17);
+    for columns::Column { name, .. } in &columns {
+        for (path, before, after) in [
+            (layout::PAGE, "| ", " |"),
+            (layout::HEADER, "\n *   ", " "),
+            (columns::COLUMNS, " -- ", ""),
+        ] {
+            watch.notices(name, |changed| {
+                let [old, new] = [name, "OTHER"].map(|name| format!("{before}{name}{after}"));
+                rewrite(changed, path, |text| text.replacen(&old, &new, 1));
+            });
+        }
+    }
+    for (path, old, new, about) in [
+        (layout::PAGE, "factor | 6 |", "factor | 4 |", "RBF"),
+        (
+            layout::HEADER,
+            "factor             6\n",
+            "factor             4\n",
+            "RBF",
+        ),
+        (columns::COLUMNS, "numberForm 6 1", "numberForm 4 1", "RBF"),
+    ] {
+        watch.notices(about, |changed| replace(changed, path, old, new));
+    }
+}
+
 #[test]
 fn a_record_of_another_size_is_noticed() {
     let repository = Repository::read();
@@ -911,6 +950,7 @@ fn a_range_of_no_rule_is_noticed() {
             "| lines | 0 to 2,151 |",
             "Statement header",
         ),
+        ("| run | 1 to 99 |\n", "| run | 1 to 98 |\n", "VERSIONNO"),
     ] {
         watch.notices(title, |changed| replace(changed, layout::PAGE, old, new));
     }
@@ -945,7 +985,7 @@ fn a_limit_that_is_off_is_noticed() {
     let watch = Watch::over(&repository, layout::other_limits);
     let rows = page::rows(repository.text(layout::PAGE)).into_iter();
     let limits: Vec<page::Row> = rows.filter(|row| row.under == "Limits").collect();
-    assert_eq!(limits.len(), 14);
+    assert_eq!(limits.len(), 17);
     for row in limits {
         watch.notices(row.first(), |changed| {
             rewrite(changed, layout::PAGE, |page| {
@@ -965,6 +1005,12 @@ fn a_limit_that_is_off_is_noticed() {
             "mostLines = 2152",
             "mostLines = 2153",
             "longest",
+        ),
+        (
+            columns::COLUMNS,
+            "numberForm 0 1 99  --",
+            "numberForm 0 1 100  --",
+            "line of a reconciliation file",
         ),
         (layout::HEADER, "51,672", "51,673", "51,673"),
     ];
@@ -989,6 +1035,11 @@ fn a_number_that_stands_for_something_else_is_noticed() {
         ("| 2 | SA1 | 4 |", "| 2 | TAS1 | 4 |", "Regions"),
         ("| 3 | TAS1 | 8 |", "| 3 | TAS1 | 4 |", "TAS1"),
         ("| 1 | factored |", "| 2 | factored |", "Modes"),
+        (
+            "| 1 | `ENABLEMENT` |",
+            "| 2 | `ENABLEMENT` |",
+            "Payment types",
+        ),
         (
             "| 7 | residual used | 1 | used |",
             "| 7 | residual used | 1 | unused |",
@@ -1025,7 +1076,12 @@ fn a_refusal_of_other_words_is_noticed() {
         ),
         ("the entry's offset", "the row's offset", "refusal 9"),
         ("   12  a line would", "   16  a line would", "refusal 12"),
-        ("index is not below", "index is above", "refusal 15"),
+        (
+            "index is not below the number of lines",
+            "index is above the number of lines",
+            "refusal 15",
+        ),
+        ("type is not below 3", "type is not below 4", "refusal 15"),
     ];
     for (old, new, about) in changes {
         watch.notices(about, |changed| replace(changed, layout::HEADER, old, new));

@@ -6,6 +6,7 @@
 //! complaints. The tests of `losses` take something away first, and ask for a complaint
 //! about it.
 
+mod columns;
 mod constants;
 mod dependencies;
 mod edge;
@@ -139,6 +140,11 @@ fn the_refusals_of_the_book_page_are_the_header_s() {
 #[test]
 fn the_names_of_the_book_page_are_the_header_s() {
     assert_none(&layout::other_names(&Repository::read()));
+}
+
+#[test]
+fn the_fields_of_a_file_are_the_definitions() {
+    assert_none(&columns::unlike_the_definitions(&Repository::read()));
 }
 
 #[test]

@@ -116,7 +116,8 @@ pub fn undefined(repository: &Repository, page: &str) -> Vec<String> {
     undefined
 }
 
-/// Whether a line of the file states the name's type, or declares it as a record.
+/// Whether a line of the file states the name's type, or declares it as a record or by
+/// its cases.
 pub fn defines(text: &str, name: &str) -> bool {
     let before = ["pub", "abbrev", "unfoldable", "record", "data"];
     text.lines().any(|line| {
@@ -124,6 +125,7 @@ pub fn defines(text: &str, name: &str) -> bool {
             .split_whitespace()
             .skip_while(|word| before.contains(word));
         let is_named = words.next() == Some(name);
-        is_named && (words.next() == Some(":") || line.contains("record "))
+        let is_declared = ["record ", "data "].iter().any(|kind| line.contains(kind));
+        is_named && (words.next() == Some(":") || is_declared)
     })
 }

@@ -1,0 +1,2 @@
+pub mod Sided
+pub mod Inner

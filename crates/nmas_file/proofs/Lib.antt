@@ -1,0 +1,10 @@
+pub mod Texts
+pub mod Ranges
+pub mod Fields
+pub mod Regions
+pub mod Walked
+pub mod Link
+pub mod Fine
+pub mod Ends
+pub mod Lines
+pub mod Length

@@ -1,0 +1,5 @@
+pub mod Fields
+pub mod OneRow
+pub mod Once
+pub mod Texts
+pub mod Numbers
