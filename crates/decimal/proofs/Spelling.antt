@@ -1,10 +1,10 @@
 -- The spelling of a number, digit by digit: what holds below 10, and of x where it holds of x / 10, holds of every number. Assumes nothing.
-use Prim.Native.Nat.{ℕ, zero, suc, _+_, _/_, _%_, _^_, _≤_, _<_}
+use Prim.Native.Nat.{ℕ, zero, suc, _+_, _*_, _/_, _%_, _^_, _≤_, _<_}
 use mathlib.Core.Path.{_≡_, refl, sym, ap, _∙_}
 use mathlib.Core.List.{List, _∷_, _++_}
 use mathlib.Core.Logic.{⊎-elim}
 use native.Mathlib.Omega.{arith}
-use native.Mathlib.Nat.{le-refl, pow-suc, pow-succ', div-div-eq-div-mul, div-one, div-le-self, div-lt-iff-lt-mul}
+use native.Mathlib.Nat.{le-refl, pow-suc, pow-succ', one-le-pow, pow-le-pow-right, div-div-eq-div-mul, div-one, div-le-self, div-lt-iff-lt-mul}
 use native.Mathlib.Numerals.{add-one}
 use borrow.Author.Tests.{lt-ltb, le-ltb}
 use lib.ListN.{length, length-append}
@@ -61,43 +61,48 @@ few-digits (suc n) x h =
     (λ l. rw (more-digits x l, length-append) (omega (arith, few-digits n (x / 10) (tenth-below x n h))))
     (lt-or-ge x 10)
 
--- how many numbers of two, three and four digits have
-two-digits : (x : ℕ) → 10 ≤ x → x < 100 → length (decimalOf x) ≡ 2
-two-digits x h g = rw (more-digits x h, length-append, one-digit (x / 10) (omega arith)) refl
-
-three-digits : (x : ℕ) → 100 ≤ x → x < 1000 → length (decimalOf x) ≡ 3
-three-digits x h g = rw (more-digits x (omega arith), length-append, two-digits (x / 10) (omega arith) (omega arith)) refl
-
-four-digits : (x : ℕ) → 1000 ≤ x → x < 10_000 → length (decimalOf x) ≡ 4
-four-digits x h g = rw (more-digits x (omega arith), length-append, three-digits (x / 10) (omega arith) (omega arith)) refl
-
 -- one more than x / 10 has
 tenth : (x : ℕ) → 10 ≤ x → length (decimalOf x) ≡ length (decimalOf (x / 10)) + 1
 tenth x h = rw (more-digits x h, length-append) refl
 
--- the loop that counts digits: n are counted, and rest is what is left above all of them but one
-module _ (x rest n : ℕ) (e : n + length (decimalOf rest) ≡ length (decimalOf x) + 1) where
-  pub count-more : 10_000 ≤ rest → n + 4 + length (decimalOf (rest / 10_000)) ≡ length (decimalOf x) + 1
-  count-more h =
-      let q : rest / 10 / 10 / 10 / 10 ≡ rest / 10_000 = omega arith in
-      rw (← q)
-      (omega
-      (arith, e, tenth rest (omega arith), tenth (rest / 10) (omega arith), tenth (rest / 10 / 10) (omega arith), tenth (rest / 10 / 10 / 10) (omega arith)))
+-- a number below 10 ^ n has no more than n
+no-more : (n : ℕ) → 1 ≤ n → (x : ℕ) → x < 10 ^ n → length (decimalOf x) ≤ n
+no-more zero l x h = absurd (omega arith)
+no-more (suc n) l x h = few-digits n x h
 
-  pub count-fits : x < 2 ^ 64 → n ≤ 20
-  count-fits h = omega (arith, e, few-digits 19 x (omega arith), some-digit rest)
+-- a number from 10 ^ n on has more than n
+many-digits : (n x : ℕ) → 10 ^ n ≤ x → suc n ≤ length (decimalOf x)
+many-digits zero x h = some-digit x
+many-digits (suc n) x h =
+    let g : 10 ^ n * 10 ≤ x = rw pow-suc at h in
+    omega (arith, tenth x (omega (arith, one-le-pow n 10 (omega arith))), many-digits n (x / 10) (omega arith))
 
-  pub count-four : rest < 10_000 → 1000 ≤ rest → n + 3 ≡ length (decimalOf x)
-  count-four g h = omega (arith, e, four-digits rest h g)
+-- the loop that counts digits: x reaches the powers of 10 below limit, of which there are n with 1
+pub record Reached (x limit n : ℕ) : Type 0 where
+  pub power : limit ≡ 10 ^ n
+  pub some : 1 ≤ n
+  pub within : n ≤ 19
+  pub digits : n ≤ length (decimalOf x)
 
-  pub count-three : rest < 1000 → 100 ≤ rest → n + 2 ≡ length (decimalOf x)
-  count-three g h = omega (arith, e, three-digits rest h g)
+pub reached-none : (x : ℕ) → Reached x 10 1
+reached-none x = record { power = refl; some = omega arith; within = omega arith; digits = some-digit x }
 
-  pub count-two : rest < 100 → 10 ≤ rest → n + 1 ≡ length (decimalOf x)
-  count-two g h = omega (arith, e, two-digits rest h g)
+module _ {x limit n : ℕ} (r : Reached x limit n) where
+  more-than : limit ≤ x → suc n ≤ length (decimalOf x)
+  more-than h = many-digits n x (rw (r .power) at h)
 
-  pub count-one : rest < 10 → n ≡ length (decimalOf x)
-  count-one g = omega (arith, e, ap length (one-digit rest g))
+  pub reached-more : limit ≤ x → (n ≡ 19 → ⊥) → Reached x (limit * 10) (n + 1)
+  reached-more h d =
+      record { power = rw (add-one, pow-suc, r .power); some = omega arith; within = omega (arith, r .within); digits = omega (arith, more-than h) }
+
+  pub reached-fits : limit ≤ x → (n ≡ 19 → ⊥) → limit * 10 < 2 ^ 64
+  reached-fits h d = omega (arith, r .power, pow-le-pow-right {n = 10} (omega arith) {i = n} {j = 18} (omega (arith, r .within)))
+
+  pub reached-last : limit ≤ x → n ≡ 19 → x < 2 ^ 64 → 20 ≡ length (decimalOf x)
+  reached-last h e f = omega (arith, more-than h, few-digits 19 x (omega arith))
+
+  pub reached-all : x < limit → n ≡ length (decimalOf x)
+  reached-all h = omega (arith, r .digits, no-more n (r .some) x (rw (r .power) at h))
 
 -- ---- the last digits
 

@@ -25,24 +25,19 @@ fn digit(x: u64) -> u8
     b'0' + (x as u8)
 }
 
-// How many digits x has, counted by fours.
+// How many digits x has: one more than the powers of 10 from 10 on that it reaches. Nothing is divided, and the compiler lays the turns out one behind
+// the other, each a comparison with a constant. Beyond the last power no u64 holds a further one.
 fn width(x: u64) -> usize
     ensures { λ r. ⌜ r ≡ length (decimalOf x) ⌝ }
 {
-    let mut rest = x;
+    let mut limit = 10;
     let mut n = 1;
-    while 10_000 <= rest {
-        rest = rest / 10_000;
-        n += 4;
-    }
-    if 1000 <= rest {
-        return n + 3;
-    }
-    if 100 <= rest {
-        return n + 2;
-    }
-    if 10 <= rest {
-        return n + 1;
+    while limit <= x {
+        if n == 19 {
+            return 20;
+        }
+        limit = limit * 10;
+        n += 1;
     }
     n
 }

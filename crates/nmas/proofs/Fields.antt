@@ -1,17 +1,18 @@
--- Fields one behind the other: what the loops over the columns need to know. Assumes nothing.
-use Prim.Native.Nat.{ℕ, zero, suc, _+_, _*_, _≤_, _<_}
-use mathlib.Core.Path.{_≡_, refl, sym, ap, ap₂, _∙_}
+-- Fields one behind the other: what is measured and written in runs of columns is the row. Assumes nothing.
+use Prim.Native.Nat.{ℕ, zero, suc, _+_, _≤_, _<_}
+use mathlib.Core.Path.{_≡_, ap}
 use mathlib.Core.Logic.{⊎-elim}
-use mathlib.Core.List.{List, [], _++_}
+use mathlib.Core.List.{List, _++_, append-nil, append-assoc}
 use native.Mathlib.Omega.{arith}
-use native.Mathlib.Nat.{add-zero}
+use native.Mathlib.Nat.{add-zero, add-suc}
 use native.Mathlib.Numerals.{add-one}
 use lib.ListN.{length, length-append}
 use Rattle.sections.proofs.Search.{lt-or-ge}
 use Rattle.ground.specs.Inner.Put.{Wrote}
 use Rattle.ground.proofs.Put.{wrote-none, wrote-more, wrote-length}
-use Rattle.columns.specs.Columns.{cellText, InRange}
+use Rattle.columns.specs.Columns.{cellText}
 use Rattle.nmas.specs.Rows.{fieldsText}
+use Rattle.nmas.specs.Inner.Cells.{fieldsRun}
 
 module _ (field : ℕ → ℕ) where
   pub one-more : (n : ℕ) → fieldsText field (n + 1) ≡ fieldsText field n ++ cellText n (field n)
@@ -27,44 +28,69 @@ module _ (field : ℕ → ℕ) where
       (λ l. let e : n ≡ suc m = omega arith in rw e (omega arith))
       (lt-or-ge n (suc m))
 
-  -- ---- counted: the first n fields make `sum` bytes
+  -- the first a fields, and the n behind them
+  pub fields-join : (a n : ℕ) → fieldsText field (a + n) ≡ fieldsText field a ++ fieldsRun field a n
+  unfolding fieldsText fieldsRun
+  fields-join a zero = rw (add-zero, append-nil)
+  fields-join a (suc n) = rw (add-suc, fields-join a n, append-assoc)
 
-  pub record Counted (n sum : ℕ) : Type 0 where
-    pub within : n ≤ 17
-    pub long : sum ≡ length (fieldsText field n)
-    pub small : sum ≤ n * 43
-
-  pub counted-none : Counted 0 0
+  -- the row's three runs
+  pub row-runs : fieldsText field 17 ≡ (fieldsRun field 0 6 ++ fieldsRun field 6 5) ++ fieldsRun field 11 6
   unfolding fieldsText
-  counted-none = record { within = omega arith; long = refl; small = omega arith }
+  row-runs = rw (fields-join 11 6, fields-join 6 5, fields-join 0 6)
 
-  pub counted-more : {n sum x : ℕ} → Counted n sum → n < 17 → (x ≡ length (cellText n (field n))) × (x ≤ 43) → Counted (n + 1) (sum + x)
-  counted-more {n} {sum} {x} c h e =
-      record { within = omega arith; long = rw (one-more n, length-append, ← c .long, ← e .0); small = omega (arith, c .small, e .1) }
+  module _ (a : ℕ) where
+    run-more : (n : ℕ) → fieldsRun field a (n + 1) ≡ fieldsRun field a n ++ cellText (a + n) (field (a + n))
+    unfolding fieldsRun
+    run-more n = rw add-one
 
-  pub counted-all : {n sum : ℕ} → Counted n sum → 17 ≤ n → (sum ≡ length (fieldsText field 17)) × (sum ≤ 731)
-  counted-all {n} c h = let e : n ≡ 17 = omega (arith, c .within) in (rw e at (c .long), omega (arith, e, c .small))
+    -- fewer fields are no longer than more
+    run-longer : (n m : ℕ) → n ≤ m → length (fieldsRun field a n) ≤ length (fieldsRun field a m)
+    run-longer n m h =
+        omega (arith, longer (a + n) (a + m) (omega arith), ap length (fields-join a n), ap length (fields-join a m), length-append (fieldsText field a) (fieldsRun field a n), length-append (fieldsText field a) (fieldsRun field a m))
 
-  -- ---- written: the first n fields stand in b from k to m
+    -- ---- written: n fields stand in b from k to m
 
-  pub record Filled (l : List ℕ) (k n : ℕ) (b : List ℕ) (m : ℕ) : Type 0 where
-    pub within : n ≤ 17
-    pub wrote : Wrote l k (fieldsText field n) b m
+    pub run-none : (l : List ℕ) (k : ℕ) → Wrote l k (fieldsRun field a 0) l k
+    unfolding fieldsRun
+    run-none l k = wrote-none l k
 
-  pub filled-none : (l : List ℕ) (k : ℕ) → Filled l k 0 l k
-  unfolding fieldsText
-  filled-none l k = record { within = omega arith; wrote = wrote-none l k }
+    module _ (n : ℕ) {l : List ℕ} {k : ℕ} {b : List ℕ} {m : ℕ} (w : Wrote l k (fieldsRun field a n) b m) where
+      pub run-room : (t : ℕ) → n < t → k + length (fieldsRun field a t) ≤ length l → m + length (cellText (a + n) (field (a + n))) ≤ length b
+      run-room t h r =
+          omega (arith, w .next, wrote-length w, run-longer (n + 1) t (omega arith), ap length (run-more n), length-append (fieldsRun field a n) (cellText (a + n) (field (a + n))))
 
-  module _ {l : List ℕ} {k n : ℕ} {b : List ℕ} {m : ℕ} (f : Filled l k n b m) where
-    pub filled-room : n < 17 → k + length (fieldsText field 17) ≤ length l → m + length (cellText n (field n)) ≤ length b
-    filled-room h r =
-        omega (arith, f .wrote .next, wrote-length (f .wrote), longer (n + 1) 17 (omega arith), ap length (one-more n), length-append (fieldsText field n) (cellText n (field n)))
+      pub run-on : {d : List ℕ} {e : ℕ} → Wrote b m (cellText (a + n) (field (a + n))) d e → Wrote l k (fieldsRun field a (n + 1)) d e
+      run-on v = rw run-more (wrote-more w v)
 
-    pub filled-more : n < 17 → {d : List ℕ} {e : ℕ} → Wrote b m (cellText n (field n)) d e → Filled l k (n + 1) d e
-    filled-more h w = record { within = omega arith; wrote = rw one-more (wrote-more (f .wrote) w) }
+    -- ---- measured: x is how many bytes n fields have
 
-    pub filled-all : 17 ≤ n → Wrote l k (fieldsText field 17) b m
-    filled-all h = let e : n ≡ 17 = omega (arith, f .within) in rw e at (f .wrote)
+    pub run-first : {x : ℕ} → x ≡ length (cellText (a + 0) (field (a + 0))) → x ≡ length (fieldsRun field a 1)
+    unfolding fieldsRun
+    run-first e = e
 
-    pub filled-length : length b ≡ length l
-    filled-length = wrote-length (f .wrote)
+    pub run-long : (n : ℕ) {x y : ℕ} → x ≡ length (fieldsRun field a n) → y ≡ length (cellText (a + n) (field (a + n))) → x + y ≡ length (fieldsRun field a (n + 1))
+    run-long n e f = rw (run-more n, length-append, ← e, ← f)
+
+  -- ---- the row of its three runs
+
+  row-lengths : length (fieldsText field 17) ≡ length (fieldsRun field 0 6) + length (fieldsRun field 6 5) + length (fieldsRun field 11 6)
+  row-lengths = rw (row-runs, length-append, length-append)
+
+  pub row-long : {x y z : ℕ} → x ≡ length (fieldsRun field 0 6) → y ≡ length (fieldsRun field 6 5) → z ≡ length (fieldsRun field 11 6) → x + y + z ≡ length (fieldsText field 17)
+  row-long e f g = omega (arith, row-lengths)
+
+  module _ (l : List ℕ) (k : ℕ) (r : k + length (fieldsText field 17) ≤ length l) where
+    pub front-room : k + length (fieldsRun field 0 6) ≤ length l
+    front-room = omega (arith, row-lengths)
+
+    module _ {a : List ℕ} {m : ℕ} (w : Wrote l k (fieldsRun field 0 6) a m) where
+      pub middle-room : m + length (fieldsRun field 6 5) ≤ length a
+      middle-room = omega (arith, row-lengths, w .next, wrote-length w)
+
+      module _ {b : List ℕ} {n : ℕ} (v : Wrote a m (fieldsRun field 6 5) b n) where
+        pub rest-room : n + length (fieldsRun field 11 6) ≤ length b
+        rest-room = omega (arith, row-lengths, w .next, wrote-length w, v .next, wrote-length v)
+
+        pub row-wrote : {d : List ℕ} {e : ℕ} → Wrote b n (fieldsRun field 11 6) d e → Wrote l k (fieldsText field 17) d e
+        row-wrote u = rw row-runs (wrote-more (wrote-more w v) u)

@@ -1,56 +1,39 @@
--- `nmas::row_length` meets its contract. The invariant: the fields so far are counted. The measure is what is left. Assumes nothing.
-use Prim.Native.Nat.{_-_}
+-- `nmas::row_length` meets its contract. Three runs of fields are the row. Assumes nothing.
 use native.Mathlib.Omega.{arith}
-use Rattle.nmas.specs.Inner.Cells.{held}
-use Rattle.nmas.proofs.Fields.{Counted, counted-none, counted-more, counted-all}
+use borrow.Author.Needs.{needs}
+use Rattle.nmas.proofs.Fields.{row-long}
 use Rattle.nmas.proofs.row_length.Statement.{statement}
 use Rattle.nmas.proofs.row_length.Tie as tie
 
-abbrev Inv-loop : tie.InvT-loop
-Inv-loop fields n₀ column₀ n column = Counted (held fields) column n
+front-length-requires : tie.Need-front-length-requires
+front-length-requires c κs = search needs
 
-abbrev μ-loop : tie.MeasureT-loop
-μ-loop fields n₀ column₀ n column = 17 - column
+middle-length-requires : tie.Need-middle-length-requires
+middle-length-requires c κs = search needs
 
-loop-holds : tie.Need-loop-holds Inv-loop μ-loop
-loop-holds c = counted-none _
+add-result : tie.Need-add-result
+add-result c = search needs
 
-mul-cell-length : tie.Need-mul-cell-length Inv-loop μ-loop
-mul-cell-length c = omega arith
+rest-length-requires : tie.Need-rest-length-requires
+rest-length-requires c κs = search needs
 
-element-copy-out-cell-length : tie.Need-element-copy-out-cell-length Inv-loop μ-loop
-element-copy-out-cell-length c = omega arith
+add-result-2 : tie.Need-add-result-2
+add-result-2 c = search needs
 
-cell-length-requires : tie.Need-cell-length-requires Inv-loop μ-loop
-cell-length-requires c κs = let turn = c .before .loop-test .taken in (turn, c .before .before .before .pre _ turn)
-
-add-n : tie.Need-add-n Inv-loop μ-loop
-add-n c = omega (arith, c .before .before .before .loop .inv .small, c .cell-length .ensures .1)
-
-add-column : tie.Need-add-column Inv-loop μ-loop
-add-column c = omega arith
-
-loop-less : tie.Need-loop-less Inv-loop μ-loop
-loop-less c = omega arith
-
-loop-again : tie.Need-loop-again Inv-loop μ-loop
-loop-again c = counted-more _ (c .before .before .before .loop .inv) (c .before .before .loop-test .taken) (c .cell-length .ensures)
-
-returns : tie.Need-returns Inv-loop μ-loop
-returns c = counted-all _ (c .before .loop .inv) (c .loop-test .left)
+returns : tie.Need-returns
+returns c =
+    let rest = c .rest-length .ensures in
+    let middle = c .before .middle-length .ensures in
+    let front = c .before .before .front-length .ensures in
+    (row-long _ (front .0) (middle .0) (rest .0), omega (arith, front .1, middle .1, rest .1))
 
 pub row-length-spec : {M : Type 1} → statement M
 row-length-spec =
     tie.close
     (tie.spec
-    Inv-loop
-    μ-loop
-    loop-holds
-    mul-cell-length
-    element-copy-out-cell-length
-    cell-length-requires
-    add-n
-    add-column
-    loop-less
-    loop-again
+    front-length-requires
+    middle-length-requires
+    add-result
+    rest-length-requires
+    add-result-2
     returns)

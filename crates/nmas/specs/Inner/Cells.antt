@@ -1,12 +1,18 @@
--- A row as an array of its fields.
-use Prim.Native.Nat.{ℕ}
-use mathlib.Core.List.{List}
+-- A row as an array of its fields, and some of its fields.
+use Prim.Native.Nat.{ℕ, zero, suc, _+_}
+use mathlib.Core.List.{List, [], _++_}
 use lib.ListN.{getD}
+use Rattle.columns.specs.Columns.{cellText}
 use Rattle.nmas.specs.declared.Row.{Row}
 
 -- what an array holds for a column
 abbrev pub held : List ℕ → ℕ → ℕ
 held cells column = getD cells column 0
+
+-- the n fields from a column on, one behind the other, each with the byte behind it
+unfoldable pub fieldsRun : (ℕ → ℕ) → ℕ → ℕ → List ℕ
+fieldsRun field from zero = []
+fieldsRun field from (suc n) = fieldsRun field from n ++ cellText (from + n) (field (from + n))
 
 -- the row that it holds
 abbrev pub rowIn : List ℕ → Row
