@@ -1,11 +1,12 @@
 -- What the functions that write digits need to know. Digits are written from the last to the first. Assumes nothing.
-use Prim.Native.Nat.{ℕ, zero, suc, _+_, _-_, _/_, _%_, _^_, _≤_, _<_}
+use Prim.Native.Nat.{ℕ, zero, suc, _+_, _-_, _*_, _/_, _%_, _^_, _≤_, _<_}
 use mathlib.Core.Path.{_≡_, refl, sym, ap, _∙_}
 use mathlib.Core.List.{List, [], _∷_, _++_, append-nil}
 use native.Mathlib.Omega.{arith}
-use native.Mathlib.Nat.{add-zero, div-one, div-le-self}
+use native.Mathlib.Nat.{add-zero, div-one, div-le-self, mod-eq-of-lt}
 use native.Mathlib.Numerals.{add-one}
 use lib.ListN.{length, length-append}
+use Rattle.ground.specs.Le.{le16}
 use Rattle.ground.specs.Put.{put}
 use Rattle.ground.specs.Inner.Put.{Wrote}
 use Rattle.ground.proofs.Put.{put-length, put-more, put-ahead}
@@ -15,8 +16,14 @@ use Rattle.decimal.proofs.Spelling.{drop-last, last-front, last-length,
 
 -- ---- digits, from the last to the first
 
-pub wrote-pair : (l : List ℕ) (k x : ℕ) {h d : ℕ} {a b : List ℕ} → h ≡ 48 + x / 10 → d ≡ 48 + x % 10 → a ≡ put l k (h ∷ []) → b ≡ put a (k + 1) (d ∷ []) → b ≡ put l k ((48 + x / 10) ∷ (48 + x % 10) ∷ [])
-wrote-pair l k x {h} {d} p q e f = rw (← p, ← q) (put-more l k (h ∷ []) (d ∷ []) e f)
+-- a number of 16 bits by its two bytes
+pub wrote-pair : (l : List ℕ) (k x : ℕ) {v : ℕ} {b : List ℕ} → x < 100 → v ≡ 12_336 + x / 10 + x % 10 * 256 → b ≡ put l k (le16 v) → b ≡ put l k ((48 + x / 10) ∷ (48 + x % 10) ∷ [])
+unfolding le16
+wrote-pair l k x {v} h e q =
+    let low : v % 256 ≡ 48 + x / 10 = omega (arith, e) in
+    let upper : v / 256 ≡ 48 + x % 10 = omega (arith, e, low) in
+    let byte : 48 + x % 10 < 256 = omega arith in
+    q ∙ rw (low, upper, mod-eq-of-lt byte) refl
 
 pub filled-length : {l : List ℕ} {k n x : ℕ} {b : List ℕ} {rest : ℕ} → Filled l k n x b rest → length b ≡ length l
 filled-length {l} {k} {n} {x} f = ap length (f .bytes) ∙ put-length l k (lastDigits n x)

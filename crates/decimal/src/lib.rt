@@ -78,13 +78,12 @@ pub fn signed_length(x: i64, decimals: usize) -> usize
     n
 }
 
-// A number below 100 by two digits.
+// A number below 100 by two digits, as the one number of 16 bits that their bytes are: so they are one store. Twice the byte of 0 is 12,336.
 fn put_pair(text: &mut [u8], at: usize, x: u64)
     requires { ⌜ (at + 2 ≤ length (now text)) × (x < 100) ⌝ }
     ensures { λ _. ⌜ now (text .exit) ≡ put (now (text .entry)) at ((48 + x / 10) ∷ (48 + x % 10) ∷ []) ⌝ }
 {
-    write::put_u8(text, at, digit(x / 10));
-    write::put_u8(text, at + 1, digit(x % 10));
+    write::put_u16(text, at, (12_336 + x / 10 + x % 10 * 256) as u16);
 }
 
 // The last n digits of x, two by two from the last to the first; the answer is what is left of x above them.
