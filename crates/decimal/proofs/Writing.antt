@@ -9,7 +9,7 @@ use lib.ListN.{length, length-append}
 use Rattle.ground.specs.Le.{le16}
 use Rattle.ground.specs.Put.{put}
 use Rattle.ground.specs.Inner.Put.{Wrote}
-use Rattle.ground.proofs.Put.{put-length, put-more, put-ahead}
+use Rattle.ground.proofs.Put.{put-length, put-ahead}
 use Rattle.decimal.specs.Decimal.{decimalOf, lastDigits, pointText, numberText}
 use Rattle.decimal.specs.Inner.Filled.{Filled}
 use Rattle.decimal.proofs.Spelling.{drop-last, last-front, last-length, all-last, few-digits, some-left, none-left}
