@@ -2,6 +2,7 @@
 use Prim.Native.Nat.{ℕ, zero, suc, _+_}
 use mathlib.Core.Bool.{Bool, true, false, cond}
 use mathlib.Core.List.{List, [], _∷_, _++_}
+use lib.IntN.{ℤ, pos, _+ℤ_}
 
 module _ {A : Type 0} where
   -- the rows 0 .. n - 1
@@ -18,6 +19,11 @@ module _ {A : Type 0} where
   unfoldable pub sumOf : (A → ℕ) → List A → ℕ
   sumOf f [] = 0
   sumOf f (x ∷ xs) = f x + sumOf f xs
+
+  -- a number with a sign, summed over them
+  unfoldable pub sumZ : (A → ℤ) → List A → ℤ
+  sumZ f [] = pos 0
+  sumZ f (x ∷ xs) = f x +ℤ sumZ f xs
 
   -- whether there is no row
   abbrev pub none : List A → Bool

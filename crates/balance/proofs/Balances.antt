@@ -8,7 +8,6 @@ use lib.Dec.{eqb}
 use lib.IntN.{ℤ, pos}
 use lib.ListN.{length}
 use Rattle.numbers.specs.Sign.{less}
-use Rattle.numbers.proofs.Sizes.{less-plus}
 use Rattle.sections.specs.Total.{total, keyed}
 use Rattle.sections.proofs.Total.{total-same}
 use Rattle.rules.specs.Rules.{factorOf}
@@ -26,13 +25,13 @@ use Rattle.accounts.specs.Inner.Energies.{energiesOf}
 use Rattle.sharing.specs.Accounts.{energyAccount}
 use Rattle.sharing.specs.Inner.Shares.{shareIn, partSum}
 use Rattle.sharing.specs.declared.shares.Part.{Part}
-use Rattle.sharing.proofs.Sums.{sum-same, sum-plus, sum-none}
+use Rattle.sharing.proofs.Sums.{sum-same, sum-plus, sum-none, sum-less}
 use Rattle.sharing.proofs.Once.{EachOnce}
 use Rattle.sharing.proofs.Everyone.{energies-once, units-once, locked-energies-once, each-once-unit, part-everyone}
 use Rattle.settlement.specs.Settle.{linesFor}
 use Rattle.balance.specs.Pools.{Pool, constraintPool, contractPool, inPool}
 use Rattle.recovery.specs.Recovers.{recovers, benefiting}
-use Rattle.balance.specs.Balance.{sumZ, accountsOf, poolLines, lineCount, lineSum, balanceIn}
+use Rattle.balance.specs.Balance.{accountsOf, poolLines, lineCount, lineSum, balanceIn}
 use Rattle.balance.specs.Inner.Shapes.{belongs, contingencyShape, regulationShape, contractShape}
 use Rattle.recovery.specs.Inner.Shapes.{unitRows, unitCredit, unitCharge, consumedPart, sentPart, regionPaid}
 use Rattle.recovery.specs.declared.kinds.Kind.{Kind}
@@ -43,12 +42,6 @@ use Rattle.balance.proofs.PoolLines.{ownUnits, regionShare, contingency
 -- ---- sums over a list
 
 module _ {A : Type 0} where
-  -- of numbers with a sign, by what is credited and charged
-  sum-less : (z : A → ℤ) (f g : A → ℕ) (l : List A) → ((a : A) → z a ≡ less (f a) (g a)) → sumZ z l ≡ less (sumOf f l) (sumOf g l)
-  unfolding sumZ sumOf
-  sum-less z f g [] h = refl
-  sum-less z f g (a ∷ l) h = rw (h a, sum-less z f g l h) (less-plus (f a) (g a) (sumOf f l) (sumOf g l))
-
   sum-each : (x : ℕ) (l : List A) → sumOf (λ a. x) l ≡ length l * x
   unfolding sumOf
   sum-each x [] = omega arith

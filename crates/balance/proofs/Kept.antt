@@ -11,10 +11,9 @@ use lib.ListN.{length, length-append}
 use Rattle.numbers.specs.Sign.{less}
 use Rattle.numbers.proofs.Sizes.{less-plus}
 use Rattle.sections.specs.Total.{total}
-use Rattle.accounts.specs.Rows.{keep, joined}
+use Rattle.accounts.specs.Rows.{keep, joined, sumZ}
 use Rattle.accounts.proofs.Lists.{keep-append}
 use Rattle.statement.specs.declared.Line.{Line}
-use Rattle.balance.specs.Balance.{sumZ}
 
 sum-append : {A : Type 0} (f : A → ℤ) (xs ys : List A) → sumZ f (xs ++ ys) ≡ sumZ f xs +ℤ sumZ f ys
 unfolding sumZ

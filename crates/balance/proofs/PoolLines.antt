@@ -43,7 +43,8 @@ use Rattle.settlement.proofs.Link.{lines-link}
 use Rattle.walk.proofs.Order.{rises-once}
 use Rattle.balance.specs.Pools.{Pool, constraintPool, contractPool, hasPart, inPool}
 use Rattle.balance.specs.Inner.Shapes.{belongs}
-use Rattle.recovery.specs.Inner.Shapes.{aboveBy, belowBy, poolBy, creditBy, chargeBy, partOf, consumedPart, sentPart}
+use Rattle.recovery.specs.ByKind.{aboveBy, belowBy, poolBy, creditBy, chargeBy}
+use Rattle.recovery.specs.Inner.Shapes.{partOf, consumedPart, sentPart}
 use Rattle.recovery.specs.declared.kinds.Kind.{Kind}
 use Rattle.recovery.specs.declared.kinds.Kind.the-variants.{Contingency, Fpp, Used, Unused, Payment}
 use Rattle.balance.proofs.Own.{ownOf, own-entry, own-constraint, own-region}

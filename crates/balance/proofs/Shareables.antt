@@ -8,7 +8,8 @@ use Rattle.amounts.specs.Inner.Bounds.{SmallResidual}
 use Rattle.amounts.specs.Pools.{poolsOf, residualPools}
 use Rattle.amounts.proofs.Sizes.{pools-small, residual-small}
 use Rattle.sharing.specs.Inner.Shares.{Shareable}
-use Rattle.recovery.specs.Inner.Shapes.{creditBy, chargeBy, partOf}
+use Rattle.recovery.specs.ByKind.{creditBy, chargeBy}
+use Rattle.recovery.specs.Inner.Shapes.{partOf}
 use Rattle.recovery.specs.Inner.Rests.{PaidBy}
 use Rattle.recovery.specs.declared.kinds.Kind.{Kind}
 use Rattle.recovery.proofs.Sharing.{credit-low, charge-low, constraint-shareable}

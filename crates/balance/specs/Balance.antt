@@ -1,14 +1,14 @@
 -- The balance of a pool. 01, Balance: "It answers the amount to recover (0 for FPP), how many lines all accounts (each that 11 lets pass) have in
 -- that pool, and their sum."
 use Prim.Native.Nat.{ℕ}
-use mathlib.Core.List.{[], List, _∷_}
-use lib.IntN.{ℤ, pos, _+ℤ_}
+use mathlib.Core.List.{List}
+use lib.IntN.{ℤ, pos}
 use lib.ListN.{length}
 use Rattle.sections.specs.declared.Verdict.{Verdict}
 use Rattle.sections.specs.declared.Verdict.the-variants as verdict
 use Rattle.book.specs.Book.{Book, bookOf}
 use Rattle.book.specs.Table.{lockedFor, verdict}
-use Rattle.accounts.specs.Rows.{keep, sumOf}
+use Rattle.accounts.specs.Rows.{keep, sumOf, sumZ}
 use Rattle.accounts.specs.Account.{publicOf}
 use Rattle.sharing.specs.Accounts.{accountsWith, accountsIn}
 use Rattle.statement.specs.declared.Line.{Line}
@@ -17,11 +17,6 @@ use Rattle.balance.specs.Pools.{Pool, Found, past, found, poolsIn, poolA
 use Rattle.balance.specs.declared.Balance.{Balance}
 use Rattle.balance.specs.declared.Balanced.{Balanced}
 use Rattle.balance.specs.declared.Balanced.the-variants as balanced
-
--- a number with a sign, summed over a list
-unfoldable pub sumZ : {A : Type 0} → (A → ℤ) → List A → ℤ
-sumZ f [] = pos 0
-sumZ f (x ∷ xs) = f x +ℤ sumZ f xs
 
 -- ---- L is the book that test payments are settled by
 

@@ -13,8 +13,14 @@ use Rattle.recovery.specs.Recovers.{recovers, benefiting}
 use Rattle.recovery.specs.declared.kinds.Kind.{Kind}
 use Rattle.recovery.specs.declared.kinds.Kind.the-variants.{Contingency, Fpp, Used, Unused, Payment}
 
--- a pool: the record that it is of, which of its lines, the amount to recover, and how many amounts are rounded before its lines are
+-- the record that a pool is of
+pub data Source : Type 0 where
+  ofConstraint : Constraint → Source
+  ofContract : Contract → Source
+
+-- a pool: the record that it is of, and its id, which of its lines, the amount to recover, and how many amounts are rounded before its lines are
 pub record Pool : Type 0 where
+  pub source : Source
   pub id : ℕ
   pub kind : Kind
   pub amount : ℕ
@@ -31,7 +37,7 @@ stagesOf Unused = 1
 stagesOf Payment = 0
 
 unfoldable pub constraintPool : Constraint → Kind → Pool
-constraintPool r kind = record { id = r .id; kind = kind; amount = recovers r kind; stages = stagesOf kind }
+constraintPool r kind = record { source = ofConstraint r; id = r .id; kind = kind; amount = recovers r kind; stages = stagesOf kind }
 
 -- "one for a mode 0 constraint, three for mode 1 (FPP, used, unused), one for mode 2"
 unfoldable pub constraintPools : Constraint → List Pool
@@ -42,7 +48,7 @@ constraintPools r =
 -- ---- a contract's pool
 
 unfoldable pub contractPool : Contract → Pool
-contractPool k = record { id = k .id; kind = Payment; amount = k .payment; stages = benefiting k }
+contractPool k = record { source = ofContract k; id = k .id; kind = Payment; amount = k .payment; stages = benefiting k }
 
 -- ---- all pools
 

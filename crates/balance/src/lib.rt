@@ -1,5 +1,5 @@
 // The balance of a pool: what it has to recover, how many lines all accounts have in it, and what they sum to.
-mod places; // places.rt: where the pool of a number stands
+pub mod places; // places.rt: where the pool of a number stands
 mod pools; // pools.rt: the balance of each kind of pool
 
 ghost use mathlib.Core.Path.{_≡_};

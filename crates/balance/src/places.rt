@@ -11,7 +11,7 @@ use records::rows::Constraint;
 use recovery::kinds::Kind;
 
 // A pool of a constraint, a contract's pool, or a number past the end.
-pub(crate) enum Place {
+pub enum Place {
     Constraint(usize, Kind),
     Contract(usize),
     Past,
@@ -42,7 +42,7 @@ fn kind_at(r: Constraint, place: u64) -> Kind
 }
 
 // The place of the pool of a number, with n constraints and a number of contracts.
-pub(crate) fn place_of(cons: &[u8], n: usize, contracts: usize, number: u64) -> Place
+pub fn place_of(cons: &[u8], n: usize, contracts: usize, number: u64) -> Place
     requires { ⌜ n * 40 ≤ length (now cons) ⌝ }
     ensures { λ x. ⌜ PlaceIs (constraintRow (now (cons .entry))) n contracts number x ⌝ }
 {

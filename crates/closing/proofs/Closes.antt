@@ -51,7 +51,8 @@ use Rattle.balance.specs.Pools.{Pool, stagesOf, constraintPool, constraintPools
 use Rattle.recovery.specs.Recovers.{recovers, benefiting}
 use Rattle.balance.specs.Balance.{accountsOf, lineCount, lineSum, balanceIn}
 use Rattle.balance.specs.Inner.Shapes.{belongs, contingencyShape, regulationShape, contractShape}
-use Rattle.recovery.specs.Inner.Shapes.{aboveBy, belowBy, poolBy, creditBy, chargeBy, unitRows, unitCredit, unitCharge, partOf, consumedPart, sentPart, regionPaid}
+use Rattle.recovery.specs.ByKind.{restAbove, restBelow, aboveBy, belowBy, poolBy, creditBy, chargeBy}
+use Rattle.recovery.specs.Inner.Shapes.{unitRows, unitCredit, unitCharge, partOf, consumedPart, sentPart, regionPaid}
 use Rattle.balance.specs.declared.Balance.{Balance}
 use Rattle.recovery.specs.declared.kinds.Kind.{Kind}
 use Rattle.recovery.specs.declared.kinds.Kind.the-variants.{Contingency, Fpp, Used, Unused, Payment}
@@ -90,21 +91,7 @@ one-sided : (b : List ℕ) → OneSided (bookOf b)
 unfolding unitRow constraintRow
 one-sided b = record { units = λ u. one-side _; constraints = λ j. one-side _ }
 
--- ---- by kind: the factor of the residual, and which of two sides is 0
-
-restPlus : Kind → Constraint → ℕ
-restPlus Contingency r = 0
-restPlus Fpp r = r .prcf
-restPlus Used r = 0
-restPlus Unused r = 0
-restPlus Payment r = 0
-
-restMinus : Kind → Constraint → ℕ
-restMinus Contingency r = 0
-restMinus Fpp r = r .nrcf
-restMinus Used r = r .nrcf
-restMinus Unused r = r .drcf
-restMinus Payment r = 0
+-- ---- by kind: which of two sides is 0
 
 unit-side : (kind : Kind) (q : UnitRow) → (q .pcf ≡ 0) ⊎ (q .ncf ≡ 0) → (aboveBy kind q ≡ 0) ⊎ (belowBy kind q ≡ 0)
 unfolding aboveBy belowBy
@@ -123,8 +110,8 @@ module _ (r : Constraint) (x : Pools) (s : (r .prcf ≡ 0) ⊎ (r .nrcf ≡ 0)) 
   rest-side Unused = inl refl
   rest-side Payment = inl refl
 
-  rest-close : (kind : Kind) → Close (poolBy kind x) 1 (restPlus kind r) (restMinus kind r) (creditBy kind (residualPools r x)) (chargeBy kind (residualPools r x))
-  unfolding poolBy creditBy chargeBy residualPools restPlus restMinus
+  rest-close : (kind : Kind) → Close (poolBy kind x) 1 (restAbove kind r) (restBelow kind r) (creditBy kind (residualPools r x)) (chargeBy kind (residualPools r x))
+  unfolding poolBy creditBy chargeBy residualPools restAbove restBelow
   rest-close Contingency = close-charge 0 0
   rest-close Fpp = close-one (x .fpp) (r .prcf) (r .nrcf) s
   rest-close Used = close-charge (x .used) (r .nrcf)
@@ -187,8 +174,8 @@ module _ {B L : Book} (p : Promise B L) where
             p .sound .default j l (omega arith) .dcf
 
     -- the factors of a kind make the amount to recover
-    factors-whole : (kind : Kind) → belongs (B .constraint j) kind ≡ true → poolBy kind (poolsOf (B .constraint j)) * (sumOver (B .unit) (B .header .units) (B .constraint j .id) (belowBy kind) + restMinus kind (B .constraint j)) ≡ poolBy kind (poolsOf (B .constraint j)) * (sumOver (B .unit) (B .header .units) (B .constraint j .id) (aboveBy kind) + restPlus kind (B .constraint j)) + 1_000_000 * recovers (B .constraint j) kind
-    unfolding belongs poolBy aboveBy belowBy restPlus restMinus recovers
+    factors-whole : (kind : Kind) → belongs (B .constraint j) kind ≡ true → poolBy kind (poolsOf (B .constraint j)) * (sumOver (B .unit) (B .header .units) (B .constraint j .id) (belowBy kind) + restBelow kind (B .constraint j)) ≡ poolBy kind (poolsOf (B .constraint j)) * (sumOver (B .unit) (B .header .units) (B .constraint j .id) (aboveBy kind) + restAbove kind (B .constraint j)) + 1_000_000 * recovers (B .constraint j) kind
+    unfolding belongs poolBy aboveBy belowBy restAbove restBelow recovers
     factors-whole Contingency h = absurd (live (eqb-true (B .constraint j .mode) 0 h))
     factors-whole Fpp h =
         let w = p .sound .factored j l (eqb-true (B .constraint j .mode) 1 h) in

@@ -17,7 +17,7 @@ use Rattle.book.specs.Book.{bookOf}
 use Rattle.book.specs.Table.{check8, check9, soundness, lockedFor, verdict}
 use Rattle.book.proofs.Passed.{sound-passed, all-passed}
 use Rattle.book.proofs.Promise.{locked-passes}
-use Rattle.accounts.specs.Rows.{keep, sumOf}
+use Rattle.accounts.specs.Rows.{keep, sumOf, sumZ}
 use Rattle.accounts.specs.Account.{publicOf, rowsOfAccount, lockedOf}
 use Rattle.sharing.specs.Once.{has}
 use Rattle.statement.specs.Statement.{statementBytes}
@@ -36,7 +36,7 @@ use Rattle.unpacking.proofs.Fields.{fields-length, fields-pieces}
 use Rattle.unpacking.proofs.Handed.{Stands, every-line-stands}
 use Rattle.settlement.specs.Settle.{headingOf, statementOf, linesFor, outcome}
 use Rattle.balance.specs.Pools.{Pool, Found, past, found, poolsIn, poolAt, inPool}
-use Rattle.balance.specs.Balance.{sumZ, poolLines, lineCount, lineSum, balanceIn, answerTo, balancesIn, balanceIf, balanceOf}
+use Rattle.balance.specs.Balance.{poolLines, lineCount, lineSum, balanceIn, answerTo, balancesIn, balanceIf, balanceOf}
 use Rattle.balance.proofs.Accounts.{each-account-stands-once}
 use Rattle.closing.proofs.Closes.{every-pool-closes}
 use Rattle.trips.specs.ReadBack.{ReadBack}

@@ -10,7 +10,7 @@ use Rattle.ground.specs.Bytes.{AreBytes, part, u64At, i64At}
 use Rattle.book.specs.Header.{headerOf}
 use Rattle.book.specs.Book.{bookOf}
 use Rattle.book.specs.Table.{lockedFor, verdict}
-use Rattle.accounts.specs.Rows.{keep, sumOf}
+use Rattle.accounts.specs.Rows.{keep, sumOf, sumZ}
 use Rattle.accounts.specs.Account.{publicOf, rowsOfAccount, lockedOf, unnamed}
 use Rattle.sharing.specs.Once.{times}
 use Rattle.statement.specs.Statement.{statementBytes}
@@ -22,7 +22,7 @@ use Rattle.reading.specs.declared.LineRead.the-variants as line
 use Rattle.reading.specs.declared.HeadingRead.the-variants as heading
 use Rattle.settlement.specs.Settle.{headingOf}
 use Rattle.balance.specs.Pools.{Pool, found, poolsIn, poolAt, inPool}
-use Rattle.balance.specs.Balance.{sumZ, accountsOf, balanceOf}
+use Rattle.balance.specs.Balance.{accountsOf, balanceOf}
 use Rattle.guide.specs.Signed.{signedBook}
 use Rattle.guide.specs.Guide.{guideLines}
 use Rattle.guide.specs.Checks.{RangesAgree, FactorSums, EntrySums}

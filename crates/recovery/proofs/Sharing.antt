@@ -16,7 +16,8 @@ use Rattle.amounts.specs.Pools.{poolsOf, halvesOf}
 use Rattle.amounts.specs.declared.pools.Residual.{Residual}
 use Rattle.amounts.proofs.Sizes.{pools-small, residual-small, halves-small}
 use Rattle.sharing.specs.Inner.Shares.{Sorted, Shareable, partSum}
-use Rattle.recovery.specs.Inner.Shapes.{creditBy, chargeBy, partOf, consumedPart, sentPart, poolBy, recoveryOf}
+use Rattle.recovery.specs.ByKind.{creditBy, chargeBy, poolBy}
+use Rattle.recovery.specs.Inner.Shapes.{partOf, consumedPart, sentPart, recoveryOf}
 use Rattle.recovery.specs.Inner.Rests.{PaidBy, PartIs}
 use Rattle.recovery.specs.declared.kinds.Kind.{Kind}
 use Rattle.recovery.specs.declared.kinds.Kind.the-variants.{Contingency, Fpp, Used, Unused, Payment}

@@ -11,7 +11,8 @@ use Rattle.rules.specs.Inner.Facts.{UnitRule}
 use Rattle.records.specs.declared.rows.UnitRow.{UnitRow}
 use Rattle.factors.specs.Naming.{keyOf}
 use Rattle.factors.specs.Inner.Runs.{Walked}
-use Rattle.recovery.specs.Inner.Shapes.{aboveBy, belowBy, unitRows, unitCredit, unitCharge}
+use Rattle.recovery.specs.ByKind.{aboveBy, belowBy}
+use Rattle.recovery.specs.Inner.Shapes.{unitRows, unitCredit, unitCharge}
 use Rattle.recovery.specs.Inner.Units.{RowAdded, SumsAre}
 use Rattle.recovery.specs.declared.kinds.Kind.{Kind}
 use Rattle.recovery.specs.declared.kinds.Kind.the-variants.{Contingency, Fpp, Used, Unused, Payment}

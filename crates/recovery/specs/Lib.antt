@@ -1,2 +1,3 @@
 pub mod Recovers
+pub mod ByKind
 pub mod Inner

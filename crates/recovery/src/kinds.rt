@@ -1,7 +1,8 @@
 // Which of a record's lines a pool has, and what such a pool rests on.
 ghost use mathlib.Core.Path.{_≡_};
 ghost use Rattle.rules.specs.Inner.Facts.{ConstraintRule};
-ghost use Rattle.recovery.specs.Inner.Shapes.{aboveBy, belowBy, recoveryOf};
+ghost use Rattle.recovery.specs.ByKind.{aboveBy, belowBy};
+ghost use Rattle.recovery.specs.Inner.Shapes.{recoveryOf};
 use amounts::pools;
 use records::rows::Constraint;
 use records::rows::UnitRow;

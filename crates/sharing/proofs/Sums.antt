@@ -4,8 +4,11 @@ use mathlib.Core.Path.{_≡_, refl, ap₂}
 use mathlib.Core.List.{List, [], _∷_}
 use native.Mathlib.Omega.{arith}
 use native.Mathlib.Nat.{suc-mul}
+use lib.IntN.{ℤ}
 use lib.ListN.{length}
-use Rattle.accounts.specs.Rows.{sumOf}
+use Rattle.numbers.specs.Sign.{less}
+use Rattle.numbers.proofs.Sizes.{less-plus}
+use Rattle.accounts.specs.Rows.{sumOf, sumZ}
 
 module _ {A : Type 0} where
   -- numbers that are equal
@@ -31,3 +34,9 @@ module _ {A : Type 0} where
   unfolding sumOf
   sum-bound f b [] h = omega arith
   sum-bound f b (a ∷ l) h = rw suc-mul (omega (arith, h a, sum-bound f b l h))
+
+  -- of numbers with a sign, by what is credited and charged
+  pub sum-less : (z : A → ℤ) (f g : A → ℕ) (l : List A) → ((a : A) → z a ≡ less (f a) (g a)) → sumZ z l ≡ less (sumOf f l) (sumOf g l)
+  unfolding sumZ sumOf
+  sum-less z f g [] h = refl
+  sum-less z f g (a ∷ l) h = rw (h a, sum-less z f g l h) (less-plus (f a) (g a) (sumOf f l) (sumOf g l))

@@ -13,7 +13,8 @@ use Rattle.book.specs.Book.{Book}
 use Rattle.amounts.specs.Pools.{poolsOf, residualPools}
 use Rattle.accounts.specs.Inner.Energies.{energiesOf}
 use Rattle.recovery.specs.Recovers.{recovers, benefiting}
-use Rattle.recovery.specs.Inner.Shapes.{poolBy, creditBy, chargeBy, unitRows, unitCredit, unitCharge, regionPaid, sharedSum}
+use Rattle.recovery.specs.ByKind.{poolBy, creditBy, chargeBy}
+use Rattle.recovery.specs.Inner.Shapes.{unitRows, unitCredit, unitCharge, regionPaid, sharedSum}
 use Rattle.balance.specs.declared.Balance.{Balance}
 use Rattle.recovery.specs.declared.kinds.Kind.{Kind}
 use Rattle.recovery.specs.declared.kinds.Kind.the-variants.{Contingency, Fpp, Used, Unused, Payment}

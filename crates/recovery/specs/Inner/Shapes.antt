@@ -16,54 +16,12 @@ use Rattle.factors.specs.Factors.{sumOver}
 use Rattle.totals.specs.Divisors.{overRegions}
 use Rattle.totals.specs.Inner.Energies.{Energies}
 use Rattle.amounts.specs.Pools.{poolsOf, residualPools, halvesOf}
-use Rattle.amounts.specs.declared.pools.Pools.{Pools}
-use Rattle.amounts.specs.declared.pools.Residual.{Residual}
 use Rattle.sharing.specs.Inner.Shares.{partSum}
 use Rattle.sharing.specs.declared.shares.Part.{Part}
 use Rattle.recovery.specs.Recovers.{recovers}
+use Rattle.recovery.specs.ByKind.{aboveBy, belowBy, poolBy, creditBy, chargeBy}
 use Rattle.recovery.specs.declared.kinds.Kind.{Kind}
 use Rattle.recovery.specs.declared.kinds.Recovery.{Recovery}
-use Rattle.recovery.specs.declared.kinds.Kind.the-variants.{Contingency, Fpp, Used, Unused, Payment}
-
--- ---- by kind
-
--- "FPP by CF, used by min(0, CF), unused by DCF": the factor of a unit row is aboveBy - belowBy
-unfoldable pub aboveBy : Kind → UnitRow → ℕ
-aboveBy Contingency q = 0
-aboveBy Fpp q = q .pcf
-aboveBy Used q = 0
-aboveBy Unused q = 0
-aboveBy Payment q = 0
-
-unfoldable pub belowBy : Kind → UnitRow → ℕ
-belowBy Contingency q = 0
-belowBy Fpp q = q .ncf
-belowBy Used q = q .ncf
-belowBy Unused q = q .dcf
-belowBy Payment q = 0
-
--- the pool that unit rows share
-unfoldable pub poolBy : Kind → Pools → ℕ
-poolBy Contingency p = 0
-poolBy Fpp p = p .fpp
-poolBy Used p = p .used
-poolBy Unused p = p .unused
-poolBy Payment p = 0
-
--- the residual pool is creditBy - chargeBy
-unfoldable pub creditBy : Kind → Residual → ℕ
-creditBy Contingency x = 0
-creditBy Fpp x = x .credit
-creditBy Used x = 0
-creditBy Unused x = 0
-creditBy Payment x = 0
-
-unfoldable pub chargeBy : Kind → Residual → ℕ
-chargeBy Contingency x = 0
-chargeBy Fpp x = x .charge
-chargeBy Used x = x .used
-chargeBy Unused x = x .unused
-chargeBy Payment x = 0
 
 -- what a pool of this kind rests on
 unfoldable pub recoveryOf : Constraint → Kind → Recovery

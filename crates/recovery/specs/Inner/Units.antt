@@ -4,7 +4,8 @@ use mathlib.Core.Path.{_≡_}
 use Rattle.numbers.specs.Round.{roundN}
 use Rattle.ground.specs.Units.{million, moneyLimit}
 use Rattle.records.specs.declared.rows.UnitRow.{UnitRow}
-use Rattle.recovery.specs.Inner.Shapes.{aboveBy, belowBy, unitRows, unitCredit, unitCharge}
+use Rattle.recovery.specs.ByKind.{aboveBy, belowBy}
+use Rattle.recovery.specs.Inner.Shapes.{unitRows, unitCredit, unitCharge}
 use Rattle.recovery.specs.declared.kinds.Kind.{Kind}
 use Rattle.recovery.specs.declared.units.UnitSums.{UnitSums}
 

@@ -1,5 +1,6 @@
 -- `recovery::kinds::recovery_of` meets its contract. The kind decides which pool, of those that the constraint has. Assumes nothing.
-use Rattle.recovery.specs.Inner.Shapes.{poolBy, creditBy, chargeBy, recoveryOf}
+use Rattle.recovery.specs.ByKind.{poolBy, creditBy, chargeBy}
+use Rattle.recovery.specs.Inner.Shapes.{recoveryOf}
 use Rattle.recovery.specs.Recovers.{recovers}
 use Rattle.amounts.proofs.Sizes.{pools-small}
 use borrow.Author.Needs.{needs}

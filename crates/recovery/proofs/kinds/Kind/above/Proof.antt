@@ -1,5 +1,5 @@
 -- `recovery::kinds::Kind::above` meets its contract. The kind decides. Assumes nothing.
-use Rattle.recovery.specs.Inner.Shapes.{aboveBy}
+use Rattle.recovery.specs.ByKind.{aboveBy}
 use borrow.Author.Needs.{needs}
 use Rattle.recovery.proofs.kinds.Kind.above.Statement.{statement}
 use Rattle.recovery.proofs.kinds.Kind.above.Tie as tie

@@ -1,5 +1,5 @@
 -- `recovery::kinds::Kind::below` meets its contract. The kind decides. Assumes nothing.
-use Rattle.recovery.specs.Inner.Shapes.{belowBy}
+use Rattle.recovery.specs.ByKind.{belowBy}
 use borrow.Author.Needs.{needs}
 use Rattle.recovery.proofs.kinds.Kind.below.Statement.{statement}
 use Rattle.recovery.proofs.kinds.Kind.below.Tie as tie
