@@ -1,8 +1,9 @@
 /*
  * Fervolatro: the checks of a book of one five-minute trading interval, the
- * statement of one account and its length, the balance of a pool, statements
- * read back, the payments and base costs that dispatch rows make, and the
- * reconciliation file for restart contracts (NMAS), written and read back.
+ * statement of one account and its length, the balance of a pool and what
+ * rounding cut off in it, statements read back, the payments and base costs
+ * that dispatch rows make, and the reconciliation file for restart contracts
+ * (NMAS), written and read back.
  *
  * A call reads the bytes it is lent and writes at most the buffer it is lent:
  * it keeps nothing from one call to the next, and needs no preparation and no
@@ -43,9 +44,9 @@
 /* The version of the library that this header belongs to. Whole numbers and
  * their text say the same. */
 #define FERVOLATRO_VERSION_MAJOR 0
-#define FERVOLATRO_VERSION_MINOR 5
+#define FERVOLATRO_VERSION_MINOR 6
 #define FERVOLATRO_VERSION_PATCH 0
-#define FERVOLATRO_VERSION "0.5.0"
+#define FERVOLATRO_VERSION "0.6.0"
 
 /* How many bytes each record of a book has, in the order of the book. */
 #define FERVOLATRO_BOOK_HEADER_SIZE 24
@@ -130,8 +131,8 @@ enum {
     FERVOLATRO_REFUSED_BUFFER = 13,
     /* The bytes are not a statement. */
     FERVOLATRO_REFUSED_NO_STATEMENT = 14,
-    /* The number of a pool, of a line, of a payment type or of a row is past
-     * the end. */
+    /* The number of a pool, of a stage, of a line, of a payment type or of a
+     * row is past the end. */
     FERVOLATRO_REFUSED_PAST_END = 15,
     /* A dispatch row is cut short, out of range or not rising, has a product
      * above FERVOLATRO_MOST_PRODUCT or takes a sum past FERVOLATRO_LIMIT. */
@@ -176,9 +177,9 @@ enum {
     FERVOLATRO_SERVICE_REGULATION_LOWER = 10
 };
 
-/* The region of an energy row, of a dispatch row or of a row of a
- * reconciliation file, and the place of a region's entry and of its benefit
- * factor. */
+/* The region of an energy row, of a dispatch row, of a row of a reconciliation
+ * file or of a contract's stage of rounding, and the place of a region's entry
+ * and of its benefit factor. */
 enum {
     FERVOLATRO_REGION_NSW1 = 0,
     FERVOLATRO_REGION_QLD1 = 1,
@@ -217,6 +218,23 @@ enum {
     FERVOLATRO_PAYMENT_TYPE_AVAILABILITY = 0,
     FERVOLATRO_PAYMENT_TYPE_ENABLEMENT = 1,
     FERVOLATRO_PAYMENT_TYPE_COMPENSATION = 2
+};
+
+/* A stage of rounding between a pool and its lines: of a contingency constraint
+ * its lines; of a factored or a default one the pool itself, its units' lines,
+ * the residual pool and the residual lines; of a contract, in each region that
+ * benefits, the region's whole part, the consumed half of that, and the lines
+ * by ACE and by ASOE. */
+enum {
+    FERVOLATRO_STAGE_LINE = 1,
+    FERVOLATRO_STAGE_POOL = 2,
+    FERVOLATRO_STAGE_UNIT = 3,
+    FERVOLATRO_STAGE_RESIDUAL = 4,
+    FERVOLATRO_STAGE_SHARE = 5,
+    FERVOLATRO_STAGE_WHOLE = 6,
+    FERVOLATRO_STAGE_HALF = 7,
+    FERVOLATRO_STAGE_ACE = 8,
+    FERVOLATRO_STAGE_ASOE = 9
 };
 
 #ifdef __cplusplus
@@ -392,7 +410,8 @@ typedef struct {
  * Gives the balance of one pool: what is to be recovered, and what the lines of
  * all accounts add up to. amount + sum is what rounding leaves over: in size at
  * most half a unit of money per line, and one half more for a constraint of
- * mode 1 or 2, or one half more per benefiting region for a contract.
+ * mode 1 or 2, or one half more per benefiting region for a contract. What each
+ * stage of rounding cut off fervolatro_cutoff tells.
  *
  *   No  Given exactly when                              Place
  *    0  none of the rows below applies                  0
@@ -417,6 +436,82 @@ typedef struct {
 fervolatro_pool fervolatro_balance(const uint8_t *book, size_t book_len,
                                    const uint8_t *locked, size_t locked_len,
                                    uint64_t pool);
+
+/*
+ * The answer of fervolatro_cutoff.
+ *
+ * refusal  0 if the stage is there, else the number of the refusal, 1 to 10,
+ *          15, 17 or 18; then every field below is 0 but the place.
+ * place    where in the book the fault lies, in bytes from its start; 0 if the
+ *          stage is there, and for refusal 15.
+ * stage    1 to 9, which stage of rounding it is.
+ * region   0 to 4 in stages 6 to 9, those of a contract, else 0.
+ * divisor  what every quotient of the stage is divided by, above 0.
+ * cut      what the stage's roundings cut off together, as a numerator over the
+ *          divisor: of each quotient exact less rounded, negative where it was
+ *          rounded up.
+ */
+typedef struct {
+    uint64_t refusal;
+    uint64_t place;
+    uint64_t stage;
+    uint64_t region;
+    uint64_t divisor;
+    int64_t cut;
+} fervolatro_cut;
+
+/*
+ * Gives what one stage of rounding cut off in a pool, summed over all that is
+ * rounded there: why a balance is not nil.
+ *
+ *   No  Given exactly when                              Place
+ *    0  none of the rows below applies                  0
+ *    1  to 10, 17 and 18, as fervolatro_check gives
+ *       them
+ *   15  pool is not below the number of pools           0
+ *   15  index is not below the number of stages         0
+ *
+ * The first row that applies is given, in this order. Pools are numbered, and
+ * accounts are those, as fervolatro_balance has them.
+ *
+ * A pool has these stages, in this order:
+ *
+ *   Stage      What is rounded                               Divisor
+ *   of a constraint of mode 0
+ *     line     cost x own energy, of each account            the total of ASOE
+ *                                                            or of ACE
+ *   of one of mode 1, in each pool; mode 2 has the last three
+ *     pool     price x RCR, cost x usage                     120, 1,000,000
+ *     unit     pool x factor, of each unit row               1,000,000
+ *     residual pool x residual factor                        1,000,000
+ *     share    residual pool x own residual energy, of       the residual
+ *              each account                                  total
+ *   of a contract, in each region whose benefit factor is above 0, rising
+ *     whole    payment x factor                              1,000,000
+ *     half     the region's part, of which the consumed      2
+ *              half is rounded up
+ *     ace      consumed half x own ACE, of each account      the region's ACE
+ *     asoe     sent-out half x own ASOE, of each account     the region's ASOE
+ *
+ * The unused pool of a constraint of mode 1 is cost less used, and not rounded
+ * itself: its stage pool has minus what used cut off. Energies and totals are
+ * sizes, those of a contract of kind 2 the locked book's; factors keep their
+ * signs. A line of a contingency constraint or of a contract is minus what is
+ * rounded, and what is cut off is not turned with it.
+ *
+ * So amount + sum of fervolatro_balance is the sum of cut / divisor over the
+ * stages line, whole, ace and asoe, less that over unit, residual and share.
+ *
+ * book        the first of book_len readable bytes.
+ * book_len    how many bytes are lent.
+ * locked      the first of locked_len readable bytes.
+ * locked_len  how many bytes are lent; 0 where there is no locked book.
+ * pool        any number.
+ * index       the number of the stage, from 0; any number.
+ */
+fervolatro_cut fervolatro_cutoff(const uint8_t *book, size_t book_len,
+                                 const uint8_t *locked, size_t locked_len,
+                                 uint64_t pool, uint64_t index);
 
 /*
  * The answer of fervolatro_header.

@@ -9,6 +9,8 @@
  *   's', the book, the locked book, a u32 account, the buffer: the answer is fervolatro_written,
  *        field by field, and then the whole buffer as the call left it;
  *   'b', the book, the locked book, a u64 pool: the answer is fervolatro_pool, field by field;
+ *   'o', the book, the locked book, a u64 pool, a u64 index: of fervolatro_cutoff; the answer is
+ *        fervolatro_cut, field by field;
  *   'h', the statement: the answer is fervolatro_heading, field by field;
  *   'l', the statement, a u64 index: the answer is fervolatro_entry, field by field;
  *   'a', the statement, the buffer: of fervolatro_lines; the answer is as for 's';
@@ -164,6 +166,18 @@ static void balance(void)
     give(&pool, sizeof pool);
 }
 
+static void cut_off(void)
+{
+    uint64_t number, index;
+    fervolatro_cut cut;
+
+    take_books();
+    take(&number, sizeof number);
+    take(&index, sizeof index);
+    cut = fervolatro_cutoff(book.bytes, book.len, locked.bytes, locked.len, number, index);
+    give(&cut, sizeof cut);
+}
+
 static void read_header(void)
 {
     static slice statement;
@@ -275,6 +289,7 @@ static const struct { int letter; void (*make)(void); } CALLS[] = {
     {'n', find_length},
     {'s', write_statement},
     {'b', balance},
+    {'o', cut_off},
     {'h', read_header},
     {'l', read_line},
     {'a', read_all_lines},

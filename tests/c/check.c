@@ -140,6 +140,7 @@ enum {
     HEADING_FIELDS = 7,
     ENTRY_FIELDS = 7,
     POOL_FIELDS = 5,
+    CUT_FIELDS = 6,
     COST_FIELDS = 3,
     NMAS_SIZE_FIELDS = 3,
     NMAS_ENTRY_FIELDS = 18
@@ -155,6 +156,8 @@ _Static_assert(sizeof(fervolatro_entry) == ENTRY_FIELDS * sizeof(uint64_t),
                "an entry has seven fields");
 _Static_assert(sizeof(fervolatro_pool) == POOL_FIELDS * sizeof(uint64_t),
                "a pool has five fields");
+_Static_assert(sizeof(fervolatro_cut) == CUT_FIELDS * sizeof(uint64_t),
+               "what is cut off has six fields");
 _Static_assert(sizeof(fervolatro_cost) == COST_FIELDS * sizeof(uint64_t),
                "a cost has three fields");
 _Static_assert(sizeof(fervolatro_nmas_size)
@@ -212,6 +215,14 @@ static void expect_pool(const char *name, const uint8_t *book, size_t len,
     fervolatro_pool got = fervolatro_balance(book, len, NULL, 0, pool);
 
     expect_fields(name, POOL_FIELDS, &got, &expected);
+}
+
+static void expect_cut(const char *name, const uint8_t *book, size_t len,
+                       uint64_t pool, uint64_t index, fervolatro_cut expected)
+{
+    fervolatro_cut got = fervolatro_cutoff(book, len, NULL, 0, pool, index);
+
+    expect_fields(name, CUT_FIELDS, &got, &expected);
 }
 
 static void expect_heading(const char *name, const uint8_t *statement,
@@ -378,6 +389,30 @@ static void balances(const uint8_t *book)
     expect_pool("pool 3, one byte short", book, WORKED_LEN - 1, 3, no_book);
 }
 
+/* What the stages of the worked book's pools cut off. Two units' FPP, 221,737.5 and
+ * 6,578,212.5, is rounded up: two halves of 1,000,000 are missing, and so the balance
+ * leaves 1. In each other stage what is cut off makes nothing together. */
+static void cut_offs(const uint8_t *book)
+{
+    static const fervolatro_cut fpp[] = {{0, 0, 2, 0, 120, 0},
+                                         {0, 0, 3, 0, 1000000, -1000000},
+                                         {0, 0, 4, 0, 1000000, 0},
+                                         {0, 0, 5, 0, 1600000, 0}};
+    static const fervolatro_cut used = {0, 0, 2, 0, 1000000, 0};
+    static const fervolatro_cut no_stage = {15, 0, 0, 0, 0, 0};
+    static const fervolatro_cut no_book = {4, 0, 0, 0, 0, 0};
+    uint64_t index;
+
+    for (index = 0; index < sizeof fpp / sizeof fpp[0]; index++) {
+        expect_cut("cut-off of FPP", book, WORKED_LEN, 0, index, fpp[index]);
+    }
+    expect_cut("cut-off of used", book, WORKED_LEN, 1, 0, used);
+    expect_cut("stage 4", book, WORKED_LEN, 0, 4, no_stage);
+    expect_cut("stage 2^64 - 1", book, WORKED_LEN, 0, UINT64_MAX, no_stage);
+    expect_cut("stage of pool 3", book, WORKED_LEN, 3, 0, no_stage);
+    expect_cut("stage 4, one byte short", book, WORKED_LEN - 1, 0, 4, no_book);
+}
+
 /* The worked book with a contract of 1,000,000 behind it, all of it for NSW1: 1,000,000
  * is 0x0F4240. In the worked book account 7 has ACE 15,000 of 1,015,000 and ASOE 5,000
  * of 585,000. */
@@ -418,10 +453,12 @@ static void locked_books(const uint8_t *book)
     static const fervolatro_entry by_ace = {0, 0, 1, 9, 1, 0, -7389};
     static const fervolatro_entry by_asoe = {0, 0, 1, 10, 1, 0, -4274};
     static const fervolatro_pool pool = {0, 0, 1000000, 4, -1000000};
+    static const fervolatro_cut ace = {0, 0, 8, 0, 1015000, 0};
     uint8_t with_test[WITH_CONTRACT_LEN], later[WORKED_LEN];
     uint8_t statement[STATEMENT_LEN + 2 * 24] = {0};
     fervolatro_written got;
     fervolatro_pool balance;
+    fervolatro_cut cut;
 
     put_contract(book, FERVOLATRO_CONTRACT_TEST, with_test);
     memcpy(later, book, WORKED_LEN);
@@ -446,6 +483,8 @@ static void locked_books(const uint8_t *book)
     expect_line("contract by ASOE", statement, sizeof statement, 13, by_asoe);
     balance = fervolatro_balance(with_test, WITH_CONTRACT_LEN, book, WORKED_LEN, 3);
     expect_fields("pool of a test payment", POOL_FIELDS, &balance, &pool);
+    cut = fervolatro_cutoff(with_test, WITH_CONTRACT_LEN, book, WORKED_LEN, 3, 2);
+    expect_fields("cut-off of a test payment", CUT_FIELDS, &cut, &ace);
 }
 
 /* Document 001's raise regulation: each region's price and enablement, and the
@@ -617,6 +656,7 @@ int main(int argc, char **argv)
     refused_books(book);
     read_back(book);
     balances(book);
+    cut_offs(book);
     locked_books(book);
     costs();
     refused_rows();

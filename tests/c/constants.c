@@ -2,8 +2,9 @@
  * Sees that the header's constants are what the library answers and reads: each
  * refusal by its name, the sizes by the records, the limits of a dispatch row by
  * the last number that is taken and the first that is not, those of a
- * reconciliation file by the longest there are, and of each group exactly the
- * numbers that the library takes. The path of the worked book is the one argument.
+ * reconciliation file by the longest there are, each stage of rounding by the pool
+ * that has it, and of each group exactly the numbers that the library takes. The path
+ * of the worked book is the one argument.
  *
  * Exits non-zero with a message if an answer is not the expected one. That the
  * constants are also the numbers of the rules, a guard sees
@@ -118,6 +119,24 @@ static int is_contract_kind(unsigned number)
     switch (number) {
     case FERVOLATRO_CONTRACT_ORDINARY:
     case FERVOLATRO_CONTRACT_TEST:
+        return 1;
+    default:
+        return 0;
+    }
+}
+
+static int is_stage(uint64_t number)
+{
+    switch (number) {
+    case FERVOLATRO_STAGE_LINE:
+    case FERVOLATRO_STAGE_POOL:
+    case FERVOLATRO_STAGE_UNIT:
+    case FERVOLATRO_STAGE_RESIDUAL:
+    case FERVOLATRO_STAGE_SHARE:
+    case FERVOLATRO_STAGE_WHOLE:
+    case FERVOLATRO_STAGE_HALF:
+    case FERVOLATRO_STAGE_ACE:
+    case FERVOLATRO_STAGE_ASOE:
         return 1;
     default:
         return 0;
@@ -356,6 +375,62 @@ static void refusals_of_a_statement(void)
            FERVOLATRO_REFUSED_NO_STATEMENT);
     expect("line 12", fervolatro_line(statement, STATEMENT_LEN, LINES).refusal,
            FERVOLATRO_REFUSED_PAST_END);
+}
+
+/* ---- Each stage of rounding by its name. */
+
+/* The stages of a pool, so many, and no more. Those of a contract have its region, the
+ * others none. */
+static void expect_stages(const uint8_t *of, size_t len, uint64_t pool,
+                          const uint64_t *stages, uint64_t count,
+                          uint64_t region)
+{
+    uint64_t index;
+
+    for (index = 0; index < count; index++) {
+        fervolatro_cut cut = fervolatro_cutoff(of, len, NULL, 0, pool, index);
+
+        expect("a stage", cut.refusal, FERVOLATRO_NOT_REFUSED);
+        expect_number("its number", cut.stage, stages[index]);
+        expect_number("its region", cut.region, region);
+        expect_number("which is a stage's", (uint64_t)is_stage(cut.stage), 1);
+    }
+    expect("a stage past the last",
+           fervolatro_cutoff(of, len, NULL, 0, pool, count).refusal,
+           FERVOLATRO_REFUSED_PAST_END);
+}
+
+/* The worked book's pools, all of one constraint; then a book of a contingency
+ * constraint and a contract, both in VIC1, where one account has 1 kWh each way. */
+static void stages(void)
+{
+    static const uint64_t factored[] = {
+        FERVOLATRO_STAGE_POOL, FERVOLATRO_STAGE_UNIT, FERVOLATRO_STAGE_RESIDUAL,
+        FERVOLATRO_STAGE_SHARE};
+    static const uint64_t contingency[] = {FERVOLATRO_STAGE_LINE};
+    static const uint64_t contract[] = {
+        FERVOLATRO_STAGE_WHOLE, FERVOLATRO_STAGE_HALF, FERVOLATRO_STAGE_ACE,
+        FERVOLATRO_STAGE_ASOE};
+    enum {
+        ENERGY_AT = CONSTRAINT_AT + FERVOLATRO_CONSTRAINT_SIZE,
+        CONTRACT_AT = ENERGY_AT + FERVOLATRO_ENERGY_ROW_SIZE,
+        LEN = CONTRACT_AT + FERVOLATRO_CONTRACT_SIZE
+    };
+    uint8_t other[LEN] = {0};
+
+    expect_stages(book, BOOK_LEN, 0, factored, 4, 0);
+    expect_stages(book, BOOK_LEN, 1, factored, 4, 0);
+    expect_stages(book, BOOK_LEN, 2, factored, 4, 0);
+    put_front(other, "RCB");
+    put_counts(other, 1, 0, 1, 1);
+    put_entry(other, FERVOLATRO_REGION_VIC1, -1, 1, 1);
+    put_constraint(other + CONSTRAINT_AT, 1, FERVOLATRO_SERVICE_FAST_RAISE,
+                   FERVOLATRO_REGION_BIT_VIC1, FERVOLATRO_MODE_CONTINGENCY, 1);
+    put_energy(other + ENERGY_AT, ACCOUNT, FERVOLATRO_REGION_VIC1, -1, 1);
+    put_contract(other + CONTRACT_AT, 1, FERVOLATRO_CONTRACT_ORDINARY, 1,
+                 FERVOLATRO_REGION_VIC1);
+    expect_stages(other, LEN, 0, contingency, 1, 0);
+    expect_stages(other, LEN, 1, contract, 4, FERVOLATRO_REGION_VIC1);
 }
 
 /* ---- Dispatch rows, by their size and their limits. */
@@ -651,6 +726,7 @@ int main(int argc, char **argv)
     refusals_of_a_book();
     refusals_of_a_locked_book();
     refusals_of_a_statement();
+    stages();
     row_size();
     row_limits();
     sum_limit();

@@ -37,6 +37,7 @@ enum {
     VERDICT_FIELDS = 2,
     WRITTEN_FIELDS = 3,
     POOL_FIELDS = 5,
+    CUT_FIELDS = 6,
     HEADING_FIELDS = 7,
     ENTRY_FIELDS = 7,
     LINE_FIELDS = 5,
@@ -53,6 +54,7 @@ enum {
 HAS_FIELDS(fervolatro_verdict, VERDICT_FIELDS);
 HAS_FIELDS(fervolatro_written, WRITTEN_FIELDS);
 HAS_FIELDS(fervolatro_pool, POOL_FIELDS);
+HAS_FIELDS(fervolatro_cut, CUT_FIELDS);
 HAS_FIELDS(fervolatro_heading, HEADING_FIELDS);
 HAS_FIELDS(fervolatro_entry, ENTRY_FIELDS);
 HAS_FIELDS(fervolatro_fields, LINE_FIELDS);
@@ -101,6 +103,12 @@ static void expect_pool(const char *name, fervolatro_pool got,
                         fervolatro_pool expected)
 {
     expect_fields(name, POOL_FIELDS, &got, &expected);
+}
+
+static void expect_cut(const char *name, fervolatro_cut got,
+                       fervolatro_cut expected)
+{
+    expect_fields(name, CUT_FIELDS, &got, &expected);
 }
 
 static void expect_heading(const char *name, fervolatro_heading got,
@@ -353,6 +361,110 @@ static const fervolatro_pool POOL[POOLS] = {
 };
 
 /*
+ * What the stages of these pools cut off.
+ *
+ * Contingency: a third of 3, three times. FPP: 6,000,000,000,000 / 120, the units' lines
+ * and the residual pool are whole; of that, 100,000, each of three has a third of 3 more
+ * than 33,333. Used and unused are whole throughout. Contract: the payment is the
+ * region's part, and odd; by ACE one eighth of 8 is left, and as much missing; by ASOE
+ * both are whole.
+ */
+enum { MOST_STAGES = 4 };
+
+static const struct {
+    uint64_t stages;
+    fervolatro_cut of[MOST_STAGES];
+} CUTS[POOLS] = {
+    {1, {{.stage = 1, .divisor = 3, .cut = 3}}},
+    {4,
+     {{.stage = 2, .divisor = 120},
+      {.stage = 3, .divisor = MILLION},
+      {.stage = 4, .divisor = MILLION},
+      {.stage = 5, .divisor = 3, .cut = 3}}},
+    {4,
+     {{.stage = 2, .divisor = MILLION},
+      {.stage = 3, .divisor = MILLION},
+      {.stage = 4, .divisor = MILLION},
+      {.stage = 5, .divisor = 3}}},
+    {4,
+     {{.stage = 2, .divisor = MILLION},
+      {.stage = 3, .divisor = MILLION},
+      {.stage = 4, .divisor = MILLION},
+      {.stage = 5, .divisor = 3}}},
+    {4,
+     {{.stage = 6, .region = SA1, .divisor = MILLION},
+      {.stage = 7, .region = SA1, .divisor = 2, .cut = -1},
+      {.stage = 8, .region = SA1, .divisor = 8},
+      {.stage = 9, .region = SA1, .divisor = 5}}},
+};
+
+/*
+ * A book in which much is cut off: accounts 1 to 1,000, 200 in each region, have ACE
+ * -100,000 and ASOE 100,000 each, in all 20,000,000 of either in a region. A raise
+ * contingency of 500 over all regions; a contract of 333, of which TAS1 has six tenths
+ * and VIC1 four.
+ *
+ * Contingency: each has one half, so 1, and of a total of 100,000,000 half is missing,
+ * 1,000 times: more than 2^32.
+ *
+ * Contract: TAS1 has 199.8, so 200, and halves of 100, of which each has one half, so 1,
+ * and -10,000,000 of 20,000,000, 200 times. VIC1 has 133.2, so 133, and the consumed half
+ * is 67, of which each has 0.335, so 0, and 6,700,000 is left, 200 times; of the other
+ * half, 66, it is 6,600,000. With a cost of 499 each has 0.499, so 0, and 49,900,000 is
+ * left, 1,000 times.
+ */
+enum {
+    TAS1 = 3,
+    VIC1 = 4,
+    MANY = 1000,
+    MANY_ENERGIES_AT = ENTRIES_END + CONSTRAINT_LEN,
+    MANY_CONTRACT_AT = MANY_ENERGIES_AT + MANY * ENERGY_LEN,
+    MANY_LEN = MANY_CONTRACT_AT + CONTRACT_LEN
+};
+
+static void make_many(uint8_t book[MANY_LEN], uint64_t cost)
+{
+    uint8_t *energy = book + MANY_ENERGIES_AT;
+    uint64_t i;
+
+    memset(book, 0, MANY_LEN);
+    put_front(book, "RCB");
+    put_counts(book, 1, 0, MANY, 1);
+    for (i = 0; i < 5; i++) {
+        put_entry(book, i, -20 * MILLION, 20 * MILLION, MANY / 5);
+    }
+    put_constraint(book + ENTRIES_END, 1, 1, 31, 0, cost);
+    for (i = 0; i < MANY; i++, energy += ENERGY_LEN) {
+        put_energy(energy, i + 1, i % 5, -100000, 100000);
+    }
+    put_contract(book + MANY_CONTRACT_AT, 1, 1, 333, TAS1);
+    put(book + MANY_CONTRACT_AT, 16 + 4 * TAS1, 4, 600000);
+    put(book + MANY_CONTRACT_AT, 16 + 4 * VIC1, 4, 400000);
+}
+
+static const fervolatro_cut MANY_HALVES = {.stage = 1,
+                                           .divisor = 100 * MILLION,
+                                           .cut = -INT64_C(50000000000)};
+static const fervolatro_cut MANY_LEFT = {.stage = 1,
+                                         .divisor = 100 * MILLION,
+                                         .cut = INT64_C(49900000000)};
+
+enum { MANY_STAGES = 8 };
+
+static const fervolatro_cut MANY_CUT[MANY_STAGES] = {
+    {.stage = 6, .region = TAS1, .divisor = MILLION, .cut = -200000},
+    {.stage = 7, .region = TAS1, .divisor = 2},
+    {.stage = 8, .region = TAS1, .divisor = 20 * MILLION, .cut = -2000000000},
+    {.stage = 9, .region = TAS1, .divisor = 20 * MILLION, .cut = -2000000000},
+    {.stage = 6, .region = VIC1, .divisor = MILLION, .cut = 200000},
+    {.stage = 7, .region = VIC1, .divisor = 2, .cut = -1},
+    {.stage = 8, .region = VIC1, .divisor = 20 * MILLION, .cut = 1340000000},
+    {.stage = 9, .region = VIC1, .divisor = 20 * MILLION, .cut = 1320000000},
+};
+
+static const fervolatro_cut NO_STAGE = {.refusal = 15};
+
+/*
  * Dispatch rows. Each price is above what an enablement can be, so that the two are
  * not exchanged unseen. A twelfth of each product:
  *
@@ -532,6 +644,46 @@ static void good_calls_on_the_book(const uint8_t *book)
     }
 }
 
+/* Each stage of each pool, and one past the last. */
+static void good_calls_for_cut_offs(const uint8_t *book)
+{
+    uint64_t pool, index;
+
+    for (pool = 0; pool < POOLS; pool++) {
+        for (index = 0; index < CUTS[pool].stages; index++) {
+            expect_cut("cut-off",
+                       fervolatro_cutoff(book, BOOK_LEN, locked, LOCKED_LEN,
+                                         pool, index),
+                       CUTS[pool].of[index]);
+        }
+        expect_cut("a stage past the last",
+                   fervolatro_cutoff(book, BOOK_LEN, locked, LOCKED_LEN, pool,
+                                     index),
+                   NO_STAGE);
+    }
+    expect_cut("a stage past the last pool",
+               fervolatro_cutoff(book, BOOK_LEN, locked, LOCKED_LEN, POOLS, 0),
+               NO_STAGE);
+}
+
+static void good_calls_for_many_cut_offs(void)
+{
+    static uint8_t book[MANY_LEN];
+    uint64_t index;
+
+    make_many(book, 499);
+    expect_cut("much that is left",
+               fervolatro_cutoff(book, MANY_LEN, NULL, 0, 0, 0), MANY_LEFT);
+    make_many(book, 500);
+    expect_cut("many halves", fervolatro_cutoff(book, MANY_LEN, NULL, 0, 0, 0),
+               MANY_HALVES);
+    for (index = 0; index < MANY_STAGES; index++) {
+        expect_cut("cut-off of many",
+                   fervolatro_cutoff(book, MANY_LEN, NULL, 0, 1, index),
+                   MANY_CUT[index]);
+    }
+}
+
 /* The locked book stands where the book does, and has no contract: the other is not
  * read. It has two accounts and no line, so no pool, and the file is empty. */
 static void exchanged_books(const uint8_t *book)
@@ -563,6 +715,9 @@ static void exchanged_books(const uint8_t *book)
     expect_pool("balance, exchanged",
                 fervolatro_balance(locked, LOCKED_LEN, book, BOOK_LEN, 0),
                 (fervolatro_pool){.refusal = 15});
+    expect_cut("cut-off, exchanged",
+               fervolatro_cutoff(locked, LOCKED_LEN, book, BOOK_LEN, 0, 0),
+               NO_STAGE);
 }
 
 /* What refuses the two slices in these lengths: 4 where the first is not whole, 18
@@ -574,6 +729,8 @@ static void expect_lengths(const char *name, const uint8_t *book, size_t book_le
                                         .place = expected.place};
     const fervolatro_pool pool = {.refusal = expected.refusal,
                                   .place = expected.place};
+    const fervolatro_cut cut = {.refusal = expected.refusal,
+                                .place = expected.place};
     uint8_t buffer[ROOM];
 
     memset(buffer, UNTOUCHED, ROOM);
@@ -593,6 +750,8 @@ static void expect_lengths(const char *name, const uint8_t *book, size_t book_le
     expect_left(name, buffer, ROOM, buffer, 0);
     expect_pool(name, fervolatro_balance(book, book_len, locked, locked_len, 0),
                 pool);
+    expect_cut(name,
+               fervolatro_cutoff(book, book_len, locked, locked_len, 0, 0), cut);
 }
 
 static void lengths_of_the_two_slices(const uint8_t *book)
@@ -803,6 +962,9 @@ static void refused_calls_on_a_book(void)
     expect_pool("balance refused",
                 fervolatro_balance(book, LARGEST_LEN, NULL, 0, 0),
                 (fervolatro_pool){.refusal = 5, .place = LAST_CONTRACT_AT});
+    expect_cut("cut-off refused",
+               fervolatro_cutoff(book, LARGEST_LEN, NULL, 0, 0, UINT64_MAX),
+               (fervolatro_cut){.refusal = 5, .place = LAST_CONTRACT_AT});
 }
 
 /* The last contract of the largest book alone is of kind 2. */
@@ -1044,6 +1206,32 @@ static void numbers_past_the_end(const uint8_t *book, const uint8_t *statement)
     }
 }
 
+/* Each is a pool's number, or a stage's, and one bit more: of pool 0, which has one
+ * stage, of another, and of the last of either. */
+static void stages_past_the_end(const uint8_t *book)
+{
+    static const uint64_t numbers[][2] = {{0, 0}, {1, 3}, {POOLS - 1, 3}};
+    size_t i;
+    int bit;
+
+    for (i = 0; i < sizeof numbers / sizeof numbers[0]; i++) {
+        const uint64_t pool = numbers[i][0], index = numbers[i][1];
+
+        for (bit = 3; bit < 64; bit++) {
+            const uint64_t more = UINT64_C(1) << bit;
+
+            expect_cut("stage of a pool of a bit more",
+                       fervolatro_cutoff(book, BOOK_LEN, locked, LOCKED_LEN,
+                                         pool + more, index),
+                       NO_STAGE);
+            expect_cut("stage of a bit more",
+                       fervolatro_cutoff(book, BOOK_LEN, locked, LOCKED_LEN,
+                                         pool, index + more),
+                       NO_STAGE);
+        }
+    }
+}
+
 /* Each is a row's number, and one bit more: 2^32 is not row 0. */
 static void rows_past_the_end(const uint8_t *text)
 {
@@ -1160,6 +1348,9 @@ static void long_book(uint8_t *mapped, const uint8_t *book)
     expect_pool("balance of a long book",
                 fervolatro_balance(mapped, len, locked, LOCKED_LEN, 0),
                 (fervolatro_pool){.refusal = 4});
+    expect_cut("cut-off of a long book",
+               fervolatro_cutoff(mapped, len, locked, LOCKED_LEN, 0, 0),
+               (fervolatro_cut){.refusal = 4});
     expect_written("length of a long book",
                    fervolatro_length(mapped, len, locked, LOCKED_LEN, ACCOUNT),
                    (fervolatro_written){.refusal = 4});
@@ -1190,6 +1381,9 @@ static void long_locked(uint8_t *mapped, const uint8_t *book)
     expect_pool("balance with a long locked book",
                 fervolatro_balance(book, BOOK_LEN, mapped, len, 0),
                 (fervolatro_pool){.refusal = 18, .place = CONTRACTS_AT});
+    expect_cut("cut-off with a long locked book",
+               fervolatro_cutoff(book, BOOK_LEN, mapped, len, 0, 0),
+               (fervolatro_cut){.refusal = 18, .place = CONTRACTS_AT});
     expect_written("length with a long locked book",
                    fervolatro_length(book, BOOK_LEN, mapped, len, ACCOUNT),
                    refused);
@@ -1339,6 +1533,9 @@ static void no_book_at(const uint8_t *pointer)
     expect_pool("balance of nothing",
                 fervolatro_balance(pointer, 0, locked, LOCKED_LEN, 0),
                 (fervolatro_pool){.refusal = 1});
+    expect_cut("cut-off of nothing",
+               fervolatro_cutoff(pointer, 0, locked, LOCKED_LEN, 0, 0),
+               (fervolatro_cut){.refusal = 1});
     expect_written("length of nothing",
                    fervolatro_length(pointer, 0, locked, LOCKED_LEN, ACCOUNT),
                    refused);
@@ -1368,6 +1565,9 @@ static void no_locked_at(const uint8_t *pointer, const uint8_t *book)
     expect_pool("balance without a locked book",
                 fervolatro_balance(book, BOOK_LEN, pointer, 0, 0),
                 (fervolatro_pool){.refusal = 17, .place = CONTRACTS_AT});
+    expect_cut("cut-off without a locked book",
+               fervolatro_cutoff(book, BOOK_LEN, pointer, 0, 0, 0),
+               (fervolatro_cut){.refusal = 17, .place = CONTRACTS_AT});
     expect_written("length without a locked book",
                    fervolatro_length(book, BOOK_LEN, pointer, 0, ACCOUNT),
                    refused);
@@ -1459,6 +1659,9 @@ static void nothing_into_nothing(const uint8_t *from, uint8_t *into)
     expect_verdict("check of nothing beside nothing",
                    fervolatro_check(from, 0, into, 0),
                    (fervolatro_verdict){.refusal = 1});
+    expect_cut("cut-off of nothing beside nothing",
+               fervolatro_cutoff(from, 0, into, 0, 0, 0),
+               (fervolatro_cut){.refusal = 1});
     expect_written("statement of nothing into nothing",
                    fervolatro_statement(from, 0, into, 0, ACCOUNT, into, 0),
                    (fervolatro_written){.refusal = 1});
@@ -1537,10 +1740,12 @@ static void calls_on_a_front(const uint8_t *front, size_t len, uint8_t *buffer)
     const uint64_t refusal = refusal_of_front(len);
     fervolatro_written written = {.refusal = refusal};
     fervolatro_pool pool = {.refusal = refusal};
+    fervolatro_cut cut = {.refusal = refusal};
 
     if (refusal == 0) {
         written = WHOLE;
         pool = POOL[0];
+        cut = CUTS[0].of[0];
     }
     expect_verdict("check before a wall",
                    fervolatro_check(front, len, locked, LOCKED_LEN),
@@ -1554,6 +1759,8 @@ static void calls_on_a_front(const uint8_t *front, size_t len, uint8_t *buffer)
                    written);
     expect_pool("balance before a wall",
                 fervolatro_balance(front, len, locked, LOCKED_LEN, 0), pool);
+    expect_cut("cut-off before a wall",
+               fervolatro_cutoff(front, len, locked, LOCKED_LEN, 0, 0), cut);
 }
 
 static void books_before_a_wall(const uint8_t *book, const uint8_t *statement)
@@ -1580,6 +1787,7 @@ static void calls_beside_a_front(const uint8_t *book, const uint8_t *front,
                                         .place = is_whole ? 0 : CONTRACTS_AT};
     const fervolatro_written refused = {.refusal = 18, .place = CONTRACTS_AT};
     const fervolatro_pool no_pool = {.refusal = 18, .place = CONTRACTS_AT};
+    const fervolatro_cut no_stage = {.refusal = 18, .place = CONTRACTS_AT};
     uint8_t buffer[STATEMENT_LEN];
 
     expect_verdict("check, locked before a wall",
@@ -1594,6 +1802,9 @@ static void calls_beside_a_front(const uint8_t *book, const uint8_t *front,
     expect_pool("balance, locked before a wall",
                 fervolatro_balance(book, BOOK_LEN, front, len, 4),
                 is_whole ? POOL[4] : no_pool);
+    expect_cut("cut-off, locked before a wall",
+               fervolatro_cutoff(book, BOOK_LEN, front, len, 4, 3),
+               is_whole ? CUTS[4].of[3] : no_stage);
 }
 
 static void locked_before_a_wall(const uint8_t *book)
@@ -1700,6 +1911,14 @@ static void expect_file_beside(const uint8_t *ordinary, const uint8_t *closed,
                 (const uint8_t *)file, sizeof file - 1);
 }
 
+/* By ACE the contract of kind 1 has 20,000,000,001 to share over 6: account 3 has
+ * 3,333,333,333 and a half, which is rounded up, 5 has 6,666,666,667, and ACCOUNT has a
+ * half too much as well: twice -3. */
+static const fervolatro_cut ORDINARY_ACE = {.stage = 8,
+                                            .region = SA1,
+                                            .divisor = 6,
+                                            .cut = -6};
+
 /* Bytes that nobody may read are lent as the locked book, and the contract is of kind
  * 1: none of them is looked at. The accounts are then 3 and 5 and ACCOUNT. */
 static void a_locked_book_that_is_closed(const uint8_t *book)
@@ -1729,6 +1948,9 @@ static void a_locked_book_that_is_closed(const uint8_t *book)
                 (fervolatro_pool){.amount = POOL[0].amount,
                                   .lines = 3,
                                   .sum = POOL[0].sum});
+    expect_cut("cut-off beside closed bytes",
+               fervolatro_cutoff(ordinary, BOOK_LEN, closed, len, 4, 2),
+               ORDINARY_ACE);
 }
 
 /* ---- What a caller's compiler leaves open. */
@@ -1752,6 +1974,9 @@ typedef void *length_call(void *answer, const uint8_t *book, size_t len,
 typedef void *balance_call(void *answer, const uint8_t *book, size_t len,
                            const uint8_t *other, size_t other_len,
                            uint64_t pool);
+typedef void *cutoff_call(void *answer, const uint8_t *book, size_t len,
+                          const uint8_t *other, size_t other_len,
+                          uint64_t pool, uint64_t index);
 typedef void *numbered_call(void *answer, const uint8_t *bytes, size_t len,
                             uint64_t number);
 typedef void *named_call(void *answer, const uint8_t *bytes, size_t len,
@@ -1796,6 +2021,7 @@ static void painted_answers_on_a_book(const uint8_t *book)
     statement_call *statement_into =
         (statement_call *)(any_call *)fervolatro_statement;
     balance_call *balance_into = (balance_call *)(any_call *)fervolatro_balance;
+    cutoff_call *cutoff_into = (cutoff_call *)(any_call *)fervolatro_cutoff;
     uint8_t buffer[STATEMENT_LEN];
     painted answer;
 
@@ -1806,6 +2032,8 @@ static void painted_answers_on_a_book(const uint8_t *book)
     expect_painted("statement, painted", &answer, WRITTEN_FIELDS, &WHOLE);
     balance_into(paint(&answer), book, BOOK_LEN, locked, LOCKED_LEN, 0);
     expect_painted("balance, painted", &answer, POOL_FIELDS, &POOL[0]);
+    cutoff_into(paint(&answer), book, BOOK_LEN, locked, LOCKED_LEN, 4, 1);
+    expect_painted("cut-off, painted", &answer, CUT_FIELDS, &CUTS[4].of[1]);
 }
 
 static void painted_answers_on_a_statement(const uint8_t *statement)
@@ -1921,6 +2149,9 @@ static void fields_that_differ(void)
     expect_distinct("the heading", HEADING_FIELDS, &HEADING);
     expect_distinct("the unit's first line", ENTRY_FIELDS, &LINE[1]);
     expect_distinct("the first pool", POOL_FIELDS, &POOL[0]);
+    expect_distinct("a stage of a region's part", CUT_FIELDS, &MANY_CUT[0]);
+    expect_distinct("a stage of a half", CUT_FIELDS, &MANY_CUT[5]);
+    expect_distinct("a stage of lines by ASOE", CUT_FIELDS, &MANY_CUT[7]);
     expect_distinct("the raise payment", COST_FIELDS, &RAISE_PAYMENT);
     expect_distinct("the first row", NMAS_ENTRY_FIELDS, &TEXT_ROW[0]);
     expect_distinct("the second row", NMAS_ENTRY_FIELDS, &TEXT_ROW[1]);
@@ -1930,6 +2161,8 @@ static void fields_that_differ(void)
 static void calls_on_books(const uint8_t *book, const uint8_t *statement)
 {
     good_calls_on_the_book(book);
+    good_calls_for_cut_offs(book);
+    good_calls_for_many_cut_offs();
     exchanged_books(book);
     lengths_of_the_two_slices(book);
     good_call_for_a_statement(book, statement);
@@ -1995,6 +2228,7 @@ int main(int argc, char **argv)
     calls_on_rows(rows);
     calls_on_files(book, text);
     numbers_past_the_end(book, statement);
+    stages_past_the_end(book);
     lengths(argv[1], book, statement, rows, text);
     slices_of_no_bytes(book, statement, rows, text);
 

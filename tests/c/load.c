@@ -30,6 +30,7 @@ static struct {
     CALL(length);
     CALL(statement);
     CALL(balance);
+    CALL(cutoff);
     CALL(header);
     CALL(line);
     CALL(lines);
@@ -67,6 +68,7 @@ static void *load(const char *path)
     FIND(loaded, length);
     FIND(loaded, statement);
     FIND(loaded, balance);
+    FIND(loaded, cutoff);
     FIND(loaded, header);
     FIND(loaded, line);
     FIND(loaded, lines);
@@ -119,6 +121,20 @@ static void balances(const uint8_t *book)
     }
     expect("pool 3", (int64_t)library.balance(book, BOOK_LEN, NULL, 0, 3).refusal,
            FERVOLATRO_REFUSED_PAST_END);
+}
+
+/* Why the first pool leaves 1: two units' halves are rounded up, and so a whole is
+ * missing. It has four stages. */
+static void cut_offs(const uint8_t *book)
+{
+    fervolatro_cut cut = library.cutoff(book, BOOK_LEN, NULL, 0, 0, 1);
+
+    expect("cut-off", (int64_t)cut.refusal, FERVOLATRO_NOT_REFUSED);
+    expect("its stage", (int64_t)cut.stage, FERVOLATRO_STAGE_UNIT);
+    expect("its divisor", (int64_t)cut.divisor, 1000000);
+    expect("what is cut off", cut.cut, -1000000);
+    cut = library.cutoff(book, BOOK_LEN, NULL, 0, 0, 4);
+    expect("stage 4", (int64_t)cut.refusal, FERVOLATRO_REFUSED_PAST_END);
 }
 
 /* The length for account 7 is 312, and account 8 is not there. Everything below
@@ -325,6 +341,7 @@ int main(int argc, char **argv)
            FERVOLATRO_NOT_REFUSED);
     statement = write_statement(book, lengths(book));
     balances(book);
+    cut_offs(book);
     locked_book(book);
     read_back(statement);
     read_all(statement);

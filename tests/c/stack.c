@@ -3,12 +3,13 @@
  * own, painted before. A book and an account are the arguments, and a locked book if
  * there is one. Prints the bytes that each call paints over: a check, the length of
  * the account's statement, the statement into just so many bytes, the balances (the
- * most over all pools), the statement's header, its first line, all its lines, the
- * statement written again and the account's reconciliation file, and a payment, a base
- * cost, how many rows a reconciliation file has and its last row (the most over few
- * dispatch rows or lines and many). Of the calls on books and statements it is the most
- * over that book and the largest ones, alone and with a locked book as large, and the
- * one of the longest file. Exits non-zero if one of them passes its limit.
+ * most over all pools), what is cut off (the most over all stages), the statement's
+ * header, its first line, all its lines, the statement written again and the account's
+ * reconciliation file, and a payment, a base cost, how many rows a reconciliation file
+ * has and its last row (the most over few dispatch rows or lines and many). Of the calls
+ * on books and statements it is the most over that book and the largest ones, alone and
+ * with a locked book as large, and the one of the longest file. Exits non-zero if one of
+ * them passes its limit.
  */
 #define _XOPEN_SOURCE 700
 
@@ -37,6 +38,7 @@ enum {
     LENGTH_LIMIT = 976,
     STATEMENT_LIMIT = 1408,
     BALANCE_LIMIT = 3696,
+    CUTOFF_LIMIT = 928,
     READING_LIMIT = 240,
     DISPATCH_LIMIT = 192,
     FILE_LIMIT = 2288,
@@ -56,7 +58,7 @@ static uint8_t file[FERVOLATRO_LARGEST_NMAS];
 static uint8_t text[MANY_ROWS * LONGEST_LINE_LEN];
 static size_t book_len, locked_len, statement_len, rows_len, text_rows;
 static uint32_t account;
-static uint64_t pool, refusal;
+static uint64_t pool, stage, refusal;
 
 static void nothing(void)
 {
@@ -89,6 +91,12 @@ static void balance(void)
 {
     refusal =
         fervolatro_balance(book, book_len, locked, locked_len, pool).refusal;
+}
+
+static void cut_off(void)
+{
+    refusal = fervolatro_cutoff(book, book_len, locked, locked_len, pool, stage)
+                  .refusal;
 }
 
 static void read_header(void)
@@ -178,9 +186,12 @@ static size_t painted_over(void (*call)(void))
 /* The same, without what making a call of nothing takes. */
 static size_t used_by(void (*call)(void))
 {
-    size_t all = painted_over(call);
+    static size_t by_nothing;
 
-    return all - painted_over(nothing);
+    if (by_nothing == 0) {
+        by_nothing = painted_over(nothing);
+    }
+    return painted_over(call) - by_nothing;
 }
 
 /* ---- What is measured, in the order in which it is printed. */
@@ -194,6 +205,7 @@ static struct measured {
     {"length", find_length, LENGTH_LIMIT, 0},
     {"statement", write_statement, STATEMENT_LIMIT, 0},
     {"balance", balance, BALANCE_LIMIT, 0},
+    {"cut-off", cut_off, CUTOFF_LIMIT, 0},
     {"header", read_header, READING_LIMIT, 0},
     {"line", read_line, READING_LIMIT, 0},
     {"lines", read_lines, READING_LIMIT, 0},
@@ -233,6 +245,28 @@ static void measure_balances(struct measured *measured)
     }
 }
 
+/* All stages of a pool, which end where the number is refused; tells whether it has
+ * any. */
+static int measure_stages(struct measured *measured)
+{
+    for (stage = 0;; stage++) {
+        cut_off();
+        if (refusal == FERVOLATRO_REFUSED_PAST_END) {
+            return stage != 0;
+        }
+        measure(measured);
+    }
+}
+
+/* Every pool has a stage. */
+static void measure_cut_offs(struct measured *measured)
+{
+    pool = 0;
+    while (measure_stages(measured)) {
+        pool++;
+    }
+}
+
 /* The calls on the books and on the account's statement, and its file. The length is
  * asked before the statement is written, and that is read then. */
 static void measure_books(void)
@@ -242,6 +276,8 @@ static void measure_books(void)
     for (i = 0; i < ON_BOOKS; i++) {
         if (calls[i].call == balance) {
             measure_balances(&calls[i]);
+        } else if (calls[i].call == cut_off) {
+            measure_cut_offs(&calls[i]);
         } else {
             measure(&calls[i]);
         }

@@ -5,13 +5,15 @@ use mathlib.Core.Path.{_≡_, refl, sym, subst, ap, ap₂, _∙_}
 use mathlib.Core.Bool.{Bool, true, false, _||_}
 use borrow.Author.Tests.{eqb-true}
 use lib.Dec.{T, eqb}
-use lib.IntN.{pos, negℤ, +ℤ-idl, +ℤ-idr}
+use lib.IntN.{pos, negℤ, _+ℤ_, _-ℤ_, _*ℤ_, +ℤ-idl, +ℤ-idr}
 use native.Mathlib.Nat.{mul-comm, mul-zero, zero-mul, zero-add, add-zero}
 use native.Mathlib.Omega.{arith}
-use Rattle.numbers.specs.Round.{roundN}
+use Rattle.numbers.specs.Round.{roundN, cutN}
 use Rattle.numbers.specs.Sign.{signed, less}
+use Rattle.numbers.proofs.Sizes.{less-plus}
+use Rattle.numbers.proofs.Ring.{less-same, less-minus, less-times}
 use Rattle.numbers.proofs.Rounding.{round-zero}
-use Rattle.amounts.specs.Shares.{byFactor, byEnergy}
+use Rattle.amounts.specs.Shares.{byFactor, byEnergy, cutByFactor, cutByEnergy}
 
 -- nothing charged, and nothing credited
 credit-only : (a : ℕ) → less a 0 ≡ pos a
@@ -64,3 +66,21 @@ side-factored pool above below t =
     ap (λ (n : ℕ). signed (eqb above 0) (roundN n 1_000_000)) (mul-comm pool (above + below))
     ∙ side-shared above below pool 1_000_000 t
     ∙ ap₂ (λ (m n : ℕ). less (roundN m 1_000_000) (roundN n 1_000_000)) (mul-comm above pool) (mul-comm below pool)
+
+-- ---- an amount times its divisor, and what was cut off it, make its exact numerator
+
+sides-exact : (a b d : ℕ) → less (roundN a d) (roundN b d) *ℤ pos d +ℤ (cutN a d -ℤ cutN b d) ≡ less a b
+sides-exact a b d =
+    ap₂ _+ℤ_ (less-times (roundN a d) (roundN b d) d) (less-minus a (roundN a d * d) b (roundN b d * d))
+    ∙ less-plus (roundN a d * d) (roundN b d * d) (a + roundN b d * d) (roundN a d * d + b)
+    ∙ less-same (roundN a d * d + (a + roundN b d * d)) (roundN b d * d + (roundN a d * d + b)) a b (omega arith)
+
+-- of a unit line, and of a residual pool
+pub factor-exact : (pool above below : ℕ) → byFactor pool above below *ℤ pos 1_000_000 +ℤ cutByFactor pool above below ≡ less (pool * above) (pool * below)
+unfolding byFactor cutByFactor
+factor-exact pool above below = sides-exact (pool * above) (pool * below) 1_000_000
+
+-- of a line that is shared by energy
+pub energy-exact : (credit charge own total : ℕ) → byEnergy credit charge own total *ℤ pos total +ℤ cutByEnergy credit charge own total ≡ less (credit * own) (charge * own)
+unfolding byEnergy cutByEnergy
+energy-exact credit charge own total = sides-exact (credit * own) (charge * own) total

@@ -4,7 +4,8 @@ use mathlib.Core.Path.{_≡_, sym, _∙_}
 use mathlib.Core.Bool.{Bool, true, false, cond}
 use lib.Dec.{eqb}
 use native.Mathlib.Omega.{arith}
-use Rattle.numbers.specs.Round.{roundN}
+use lib.IntN.{ℤ}
+use Rattle.numbers.specs.Round.{roundN, cutN}
 use Rattle.numbers.proofs.Rounding.{round-share, half-below}
 use Rattle.market.specs.Kinds.{modeWith}
 use Rattle.rules.specs.Rules.{modeOf}
@@ -12,7 +13,7 @@ use Rattle.rules.specs.Inner.Facts.{ConstraintRule}
 use Rattle.market.specs.declared.Mode.{Mode}
 use Rattle.market.specs.declared.Mode.the-variants.{Contingency, Factored, Default, Unknown}
 use Rattle.records.specs.declared.rows.Constraint.{Constraint}
-use Rattle.amounts.specs.Pools.{poolsByMode, poolsOf, residualPools, halvesOf}
+use Rattle.amounts.specs.Pools.{poolsByMode, poolsOf, poolCutsByMode, poolCutsOf, residualPools, halvesOf}
 use Rattle.amounts.specs.Inner.Bounds.{SmallPools, SmallResidual, SmallHalves}
 use Rattle.amounts.specs.declared.pools.Pools.{Pools}
 
@@ -40,6 +41,11 @@ data-of r h = by (eqb (r .mode) 0) (eqb (r .mode) 1) (eqb (r .mode) 2)
 -- what a mode found to be factored holds
 pub data-in : (r : Constraint) {m : Mode} {p s u : ℕ} → ConstraintRule r → m ≡ modeOf r → m ≡ Factored p s u → InRange p s u
 data-in r h e f = rw (sym e ∙ f) at (data-of r h)
+
+-- and what rounding its pools cut off
+pub cuts-factored : (r : Constraint) {m : Mode} {p s u : ℕ} {x y : ℤ} → m ≡ modeOf r → m ≡ Factored p s u → x ≡ cutN (p * s) 120 → y ≡ cutN (r .cost * u) 1_000_000 → record { fpp = x; used = y } ≡ poolCutsOf r
+unfolding poolCutsByMode
+cuts-factored r e f x y = rw (sym e, f, x, y)
 
 -- a rounded 120th of 6,000,000,000,000
 fpp-small : (n : ℕ) → n ≤ 6_000_000_000_000 → roundN n 120 ≤ 50_000_000_000

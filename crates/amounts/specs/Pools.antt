@@ -1,12 +1,14 @@
 -- What a constraint or a contract has to recover. 01, The amounts.
 use Prim.Native.Nat.{ℕ, _+_, _-_, _*_, _/_}
-use Rattle.numbers.specs.Round.{roundN}
+use lib.IntN.{pos}
+use Rattle.numbers.specs.Round.{roundN, cutN}
 use Rattle.ground.specs.Units.{million}
 use Rattle.rules.specs.Rules.{modeOf}
 use Rattle.market.specs.declared.Mode.{Mode}
 use Rattle.market.specs.declared.Mode.the-variants.{Contingency, Factored, Default, Unknown}
 use Rattle.records.specs.declared.rows.Constraint.{Constraint}
 use Rattle.amounts.specs.declared.pools.Pools.{Pools}
+use Rattle.amounts.specs.declared.pools.PoolCuts.{PoolCuts}
 use Rattle.amounts.specs.declared.pools.Residual.{Residual}
 use Rattle.amounts.specs.declared.pools.Halves.{Halves}
 
@@ -28,6 +30,19 @@ poolsByMode cost Unknown = allUnused cost
 
 abbrev pub poolsOf : Constraint → Pools
 poolsOf r = poolsByMode (r .cost) (modeOf r)
+
+-- what rounding them cuts off: "Mode 2: all unused", and nothing is rounded
+abbrev pub noneCut : PoolCuts
+noneCut = record { fpp = pos 0; used = pos 0 }
+
+unfoldable pub poolCutsByMode : ℕ → Mode → PoolCuts
+poolCutsByMode cost Contingency = noneCut
+poolCutsByMode cost (Factored price response usage) = record { fpp = cutN (price * response) 120; used = cutN (cost * usage) million }
+poolCutsByMode cost Default = noneCut
+poolCutsByMode cost Unknown = noneCut
+
+abbrev pub poolCutsOf : Constraint → PoolCuts
+poolCutsOf r = poolCutsByMode (r .cost) (modeOf r)
 
 -- "Residual pools are made the same way, from RCF, min(0, RCF), DRCF."
 unfoldable pub residualPools : Constraint → Pools → Residual

@@ -1,14 +1,15 @@
 // What a constraint or a contract has to recover, before it is shared.
 ghost use mathlib.Core.Path.{_≡_};
 ghost use Prim.Native.Nat.{_*_, _≤_};
-ghost use Rattle.numbers.specs.Round.{roundN};
+ghost use Rattle.numbers.specs.Round.{Rounds};
 ghost use Rattle.ground.specs.Units.{million, moneyLimit};
 ghost use Rattle.rules.specs.Inner.Facts.{ConstraintRule};
-ghost use Rattle.amounts.specs.Pools.{poolsOf, residualPools, halvesOf};
+ghost use Rattle.amounts.specs.Pools.{poolsOf, poolCutsOf, residualPools, halvesOf};
 ghost use Rattle.amounts.specs.Inner.Bounds.{SmallPools};
 use crate::shares;
 use market::Mode;
 use numbers::round;
+use numbers::round::Rounded;
 use records::rows::Constraint;
 
 // The three pools of a regulation constraint.
@@ -32,9 +33,15 @@ pub struct Halves {
     pub sent: u64,
 }
 
+// What rounding the pools of a regulation constraint cut off. Unused is what used leaves, and not rounded itself.
+pub struct PoolCuts {
+    pub fpp: i64,
+    pub used: i64,
+}
+
 // The FPP pool of a price and a response.
-fn fpp_pool(price: u32, response: u32) -> u64
-    ensures { λ x. ⌜ x ≡ roundN (price * response) 120 ⌝ }
+fn fpp_pool(price: u32, response: u32) -> Rounded
+    ensures { λ x. ⌜ Rounds (price * response) 120 x ⌝ }
 {
     round::nearest((price as u64) * (response as u64), 120)
 }
@@ -59,9 +66,29 @@ pub fn pools_of(r: Constraint) -> Pools
     };
     let used = shares::share(r.cost, usage as u64, 1_000_000);
     Pools {
-        fpp: fpp_pool(price, response),
+        fpp: fpp_pool(price, response).whole,
         used,
         unused: r.cost - used,
+    }
+}
+
+// What was cut off them; where nothing is rounded, nothing.
+pub fn pool_cuts(r: Constraint) -> PoolCuts
+    requires { ⌜ ConstraintRule r ⌝ }
+    ensures { λ p. ⌜ p ≡ poolCutsOf r ⌝ }
+{
+    let mode = Mode::of(r.mode, r.price, r.rcr, r.usage);
+    let Mode::Factored {
+        price,
+        response,
+        usage,
+    } = mode
+    else {
+        return PoolCuts { fpp: 0, used: 0 };
+    };
+    PoolCuts {
+        fpp: fpp_pool(price, response).cut,
+        used: shares::rounded_share(r.cost, usage as u64, 1_000_000).cut,
     }
 }
 
@@ -78,13 +105,21 @@ pub fn residual_of(r: Constraint, p: Pools) -> Residual
     }
 }
 
-// The odd unit of money goes to the consumed half.
+// The consumed half of a region's part: the odd unit of money goes to it.
+pub fn half_of(part: u64) -> Rounded
+    requires { ⌜ part ≤ moneyLimit ⌝ }
+    ensures { λ x. ⌜ Rounds part 2 x ⌝ }
+{
+    round::nearest(part, 2)
+}
+
+// A region's part of a payment in two: the sent-out half is what the consumed one leaves.
 pub fn halves_of(payment: u64, factor: u32) -> Halves
     requires { ⌜ (payment ≤ moneyLimit) × (factor ≤ million) ⌝ }
     ensures { λ x. ⌜ x ≡ halvesOf payment factor ⌝ }
 {
     let part = shares::share(payment, factor as u64, 1_000_000);
-    let consumed = round::nearest(part, 2);
+    let consumed = half_of(part).whole;
     Halves {
         consumed,
         sent: part - consumed,

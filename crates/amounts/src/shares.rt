@@ -2,30 +2,39 @@
 // signed amount is made once, here.
 ghost use mathlib.Core.Path.{_≡_};
 ghost use Prim.Native.Nat.{_*_, _≤_, _<_};
-ghost use Rattle.numbers.specs.Round.{roundN};
+ghost use Rattle.numbers.specs.Round.{roundN, Rounds};
 ghost use Rattle.numbers.specs.Sign.{less};
 ghost use Rattle.ground.specs.Units.{million, moneyLimit, totalLimit};
 ghost use Rattle.amounts.specs.Shares.{byFactor, byEnergy};
 use numbers::round;
+use numbers::round::Rounded;
 use numbers::sign;
 
-// pool x own / total, to the nearest. The product fits, since pools and totals are small.
-pub fn share(pool: u64, own: u64, total: u64) -> u64
+// pool x own / total, to the nearest, and what that cut off. The product fits, since pools and totals are small.
+pub fn rounded_share(pool: u64, own: u64, total: u64) -> Rounded
     requires { ⌜ (pool ≤ moneyLimit) × ((own ≤ total) × ((0 < total) × (total ≤ totalLimit))) ⌝ }
-    ensures { λ r. ⌜ r ≡ roundN (pool * own) total ⌝ }
+    ensures { λ r. ⌜ Rounds (pool * own) total r ⌝ }
 {
     round::nearest(pool * own, total)
 }
 
-// The same for an account that may own nothing, as many do of one kind of energy: its share is then 0, and needs no division.
-pub fn owned_share(pool: u64, own: u64, total: u64) -> u64
+// The whole number alone.
+pub fn share(pool: u64, own: u64, total: u64) -> u64
     requires { ⌜ (pool ≤ moneyLimit) × ((own ≤ total) × ((0 < total) × (total ≤ totalLimit))) ⌝ }
     ensures { λ r. ⌜ r ≡ roundN (pool * own) total ⌝ }
 {
+    rounded_share(pool, own, total).whole
+}
+
+// Both for an account that may own nothing, as many do of one kind of energy: its share is then 0, with nothing cut off, and needs no division.
+pub fn owned_share(pool: u64, own: u64, total: u64) -> Rounded
+    requires { ⌜ (pool ≤ moneyLimit) × ((own ≤ total) × ((0 < total) × (total ≤ totalLimit))) ⌝ }
+    ensures { λ r. ⌜ Rounds (pool * own) total r ⌝ }
+{
     if own == 0 {
-        return 0;
+        return Rounded { whole: 0, cut: 0 };
     }
-    share(pool, own, total)
+    rounded_share(pool, own, total)
 }
 
 // What is credited less what is charged: of one line, or summed over lines.

@@ -1,5 +1,5 @@
--- What a caller in C or Rust is answered for each case of a verdict, of a written statement, of one that is read, of a pool's balance, of a
--- payment or a base cost, and of a reconciliation file that is read.
+-- What a caller in C or Rust is answered for each case of a verdict, of a written statement, of one that is read, of a pool's balance, of
+-- what one of its stages cut off, of a payment or a base cost, and of a reconciliation file that is read.
 use Rattle.sections.specs.declared.Verdict.{Verdict}
 use Rattle.sections.specs.declared.Verdict.the-variants.{Accepted, Refused}
 use Prim.Native.Nat.{ℕ}
@@ -16,6 +16,10 @@ use Rattle.reading.specs.declared.LineRead.{LineRead}
 use Rattle.reading.specs.declared.LineRead.the-variants as line
 use Rattle.balance.specs.declared.Balanced.{Balanced}
 use Rattle.balance.specs.declared.Balanced.the-variants as balanced
+use Rattle.cutoffs.specs.declared.Stage.{Stage}
+use Rattle.cutoffs.specs.declared.Stage.the-variants as stage
+use Rattle.cutoffs.specs.declared.Cutoff.{Cutoff}
+use Rattle.cutoffs.specs.declared.Cutoff.the-variants as cutoff
 use Rattle.dispatch.specs.declared.Cost.{Cost}
 use Rattle.dispatch.specs.declared.Cost.the-variants as cost
 use Rattle.numbers.specs.Sign.{signed}
@@ -30,6 +34,7 @@ use Rattle.answers.specs.declared.WrittenAnswer.{WrittenAnswer}
 use Rattle.answers.specs.declared.HeadingAnswer.{HeadingAnswer}
 use Rattle.answers.specs.declared.EntryAnswer.{EntryAnswer}
 use Rattle.answers.specs.declared.PoolAnswer.{PoolAnswer}
+use Rattle.answers.specs.declared.CutAnswer.{CutAnswer}
 use Rattle.answers.specs.declared.CostAnswer.{CostAnswer}
 use Rattle.answers.specs.declared.NmasSizeAnswer.{NmasSizeAnswer}
 use Rattle.answers.specs.declared.NmasEntryAnswer.{NmasEntryAnswer}
@@ -64,6 +69,22 @@ entryAnswer (line.Refused number place) =
 unfoldable pub poolAnswer : Balanced → PoolAnswer
 poolAnswer (balanced.Pool b) = record { refusal = 0; place = 0; amount = b .amount; lines = b .lines; sum = b .sum }
 poolAnswer (balanced.Refused number place) = record { refusal = number; place = place; amount = pos 0; lines = 0; sum = pos 0 }
+
+-- the numbers of the stages, in the order in which a pool has them
+unfoldable pub stageNumber : Stage → ℕ
+stageNumber stage.Line = 1
+stageNumber stage.Pool = 2
+stageNumber stage.Unit = 3
+stageNumber stage.Residual = 4
+stageNumber stage.Share = 5
+stageNumber stage.Whole = 6
+stageNumber stage.Half = 7
+stageNumber stage.Ace = 8
+stageNumber stage.Asoe = 9
+
+unfoldable pub cutAnswer : Cutoff → CutAnswer
+cutAnswer (cutoff.Cut c) = record { refusal = 0; place = 0; stage = stageNumber (c .stage); region = c .region; divisor = c .divisor; cut = c .cut }
+cutAnswer (cutoff.Refused number place) = record { refusal = number; place = place; stage = 0; region = 0; divisor = 0; cut = pos 0 }
 
 unfoldable pub costAnswer : Cost → CostAnswer
 costAnswer (cost.Amount amount) = record { refusal = 0; place = 0; amount = amount }

@@ -1,8 +1,10 @@
 // What a caller in C or Rust is answered (include/fervolatro.h): plain structs of numbers, and how each case of an answer fills them.
 ghost use mathlib.Core.Path.{_≡_};
-ghost use Rattle.answers.specs.Answers.{verdictAnswer, writtenAnswer, headingAnswer, entryAnswer, poolAnswer, costAnswer, nmasSizeAnswer, nmasRowAnswer, nmasEntryAnswer, noRowAnswer};
+ghost use Rattle.answers.specs.Answers.{verdictAnswer, writtenAnswer, headingAnswer, entryAnswer, poolAnswer, stageNumber, cutAnswer, costAnswer, nmasSizeAnswer, nmasRowAnswer, nmasEntryAnswer, noRowAnswer};
 ghost use Rattle.nmas_reading.specs.Inner.Sized.{Sized, RowSized};
 use balance::Balanced;
+use cutoffs::Cutoff;
+use cutoffs::Stage;
 use dispatch::Cost;
 use nmas::Row;
 use nmas_reading::RowRead;
@@ -161,6 +163,60 @@ pub fn pool(b: Balanced) -> PoolAnswer
             amount: 0,
             lines: 0,
             sum: 0,
+        },
+    }
+}
+
+// `fervolatro_cut`: refusal 0 is success, and then the other fields are the stage's: its number, its region, and what its roundings cut off over
+// the divisor.
+#[repr(C)]
+pub struct CutAnswer {
+    pub refusal: u64,
+    pub place: u64,
+    pub stage: u64,
+    pub region: u64,
+    pub divisor: u64,
+    pub cut: i64,
+}
+
+fn stage_number(stage: Stage) -> u64
+    ensures { λ r. ⌜ r ≡ stageNumber stage ⌝ }
+{
+    match stage {
+        Stage::Line => 1,
+        Stage::Pool => 2,
+        Stage::Unit => 3,
+        Stage::Residual => 4,
+        Stage::Share => 5,
+        Stage::Whole => 6,
+        Stage::Half => 7,
+        Stage::Ace => 8,
+        Stage::Asoe => 9,
+    }
+}
+
+pub fn cut(found: Cutoff) -> CutAnswer
+    ensures { λ r. ⌜ r ≡ cutAnswer found ⌝ }
+{
+    match found {
+        Cutoff::Cut(x) => {
+            let stage = x.stage;
+            CutAnswer {
+                refusal: 0,
+                place: 0,
+                stage: stage_number(stage),
+                region: x.region as u64,
+                divisor: x.divisor,
+                cut: x.cut,
+            }
+        }
+        Cutoff::Refused(number, place) => CutAnswer {
+            refusal: number as u64,
+            place: place as u64,
+            stage: 0, // no stage has this number
+            region: 0,
+            divisor: 0,
+            cut: 0,
         },
     }
 }

@@ -8,13 +8,16 @@ ghost use Rattle.unpacking.specs.Unpacking.{unpacked};
 ghost use Rattle.book.specs.Table.{lockedFor};
 ghost use Rattle.settlement.specs.Settle.{outcome};
 ghost use Rattle.nmas_file.specs.File.{fileOutcome};
-ghost use Rattle.demands.specs.Demand1.{CheckAnswered, LengthAnswered, PoolAnswered, HeadingAnswered, EntryAnswered, CostAnswered, NmasSizeAnswered, NmasEntryAnswered, Gives, Answered, onAStatement, onRewriting, onAFile};
+ghost use Rattle.answers.specs.declared.CutAnswer.{CutAnswer};
+ghost use Rattle.demands.specs.Demand1.{CheckAnswered, LengthAnswered, PoolAnswered, CutAnswered, CutoffCall, HeadingAnswered, EntryAnswered, CostAnswered, NmasSizeAnswered, NmasEntryAnswered, Gives, Answered, onAStatement, onRewriting, onAFile};
 ghost use Rattle.demands.specs.Demand2.{NumbersAreTheGuides, StatementIsTheGuides, LinesAreTheLineCalls, PoolCloses};
 ghost use Rattle.demands.specs.File.{WrittenAndRead, ReadAndWritten};
+ghost use Rattle.demands.specs.Explained.{BalanceExplained};
 ghost use Rattle.demands.specs.Length.{AskedFirst, AsLongAsTheGuides};
 ghost use Rattle.demands.specs.Unread.{NoTestPayment};
 ghost use Rattle.demands.specs.Demand3.{Agree, AgreeButForCosts, Way, CostsMade, Same};
 use answers::CostAnswer;
+use answers::CutAnswer;
 use answers::EntryAnswer;
 use answers::HeadingAnswer;
 use answers::NmasEntryAnswer;
@@ -52,6 +55,20 @@ pub fn statement<'a>(
 pub fn balance<'a>(book: &'a [u8], locked: &'a [u8], number: u64) -> PoolAnswer
     ensures { λ r. ⌜ PoolAnswered r ⌝ }
     ensures { λ r. ⌜ (r .refusal ≡ 0 → PoolCloses (now (book .entry)) (now (locked .entry)) number r) ⌝ }
+{
+    fervolatro::fervolatro_balance(book, locked, number)
+}
+
+pub fn cutoff<'a>(book: &'a [u8], locked: &'a [u8], number: u64, index: u64) -> CutAnswer
+    ensures { λ r. ⌜ CutAnswered r ⌝ }
+    ensures { λ r. ⌜ CutoffCall (now (book .entry)) (now (locked .entry)) number index r ⌝ }
+{
+    fervolatro::fervolatro_cutoff(book, locked, number, index)
+}
+
+// A balance, beside whatever answers keep to what is asked of `cutoff` for each number of a stage.
+pub fn explained<'a>(book: &'a [u8], locked: &'a [u8], number: u64) -> PoolAnswer
+    ensures { λ r. ⌜ ((c : ℕ → CutAnswer) → ((index : ℕ) → CutoffCall (now (book .entry)) (now (locked .entry)) number index (c index)) → r .refusal ≡ 0 → BalanceExplained (now (book .entry)) (now (locked .entry)) number r c) ⌝ }
 {
     fervolatro::fervolatro_balance(book, locked, number)
 }

@@ -1,6 +1,6 @@
 -- The balance of each kind of pool is what one pass over the rows meets: sums over all accounts count each row once. Assumes nothing.
 use Prim.Native.Nat.{ℕ, zero, suc, _+_, _*_, _<_}
-use mathlib.Core.Path.{_≡_, refl, sym, ap, ap₂, _∙_}
+use mathlib.Core.Path.{_≡_, sym, ap, ap₂, _∙_}
 use mathlib.Core.Bool.{Bool, true, false, cond}
 use mathlib.Core.List.{[], List, _∷_}
 use native.Mathlib.Omega.{arith}
@@ -86,7 +86,7 @@ module _ (B L : Book) where
   ones = omega (arith, sum-each 1 (accountsOf B L))
 
   -- count each unit row once
-  unit-rows-once : (id : ℕ) (f : UnitRow → ℕ) → sumOf (λ a. ownUnits B a id f) (accountsOf B L) ≡ sumOver (B .unit) (B .header .units) id f
+  pub unit-rows-once : (id : ℕ) (f : UnitRow → ℕ) → sumOf (λ a. ownUnits B a id f) (accountsOf B L) ≡ sumOver (B .unit) (B .header .units) id f
   unfolding ownUnits
   unit-rows-once id f =
       each-once-unit (B .unit) (B .header .units) (accountsOf B L) (units-once (B .energy) (B .header .energies) (B .unit) (B .header .units) (L .energy) (L .header .energies) (L .unit) (L .header .units))

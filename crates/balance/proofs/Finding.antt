@@ -15,7 +15,7 @@ use Rattle.records.specs.declared.rows.Contract.{Contract}
 use Rattle.ground.proofs.Every.{every}
 use Rattle.accounts.specs.Rows.{rowsOf, concatMap}
 use Rattle.accounts.proofs.Lists.{concat-append}
-use Rattle.balance.specs.Pools.{Pool, past, found, constraintPool, constraintPools, contractPool, poolAt}
+use Rattle.balance.specs.Pools.{Pool, past, constraintPool, constraintPools, contractPool, poolAt}
 use Rattle.balance.specs.Inner.Places.{KindIs, poolsOver, PlaceIs}
 use Rattle.balance.specs.Inner.Shapes.{belongs}
 use Rattle.recovery.specs.declared.kinds.Kind.{Kind}

@@ -1,18 +1,20 @@
 -- An account's own energy by region, and over the regions of a part: what the part counts of the account's rows. Assumes nothing.
 use Prim.Native.Nat.{ℕ, _<_, _^_}
-use mathlib.Core.Path.{_≡_, refl, sym, _∙_}
+use mathlib.Core.Path.{_≡_, refl, sym, ap, _∙_}
 use mathlib.Core.Bool.{cond}
 use lib.Dec.{eqb}
 use lib.ListN.{getD}
 use Rattle.sections.specs.Total.{keyed, totalOf}
 use Rattle.market.specs.declared.Basis.{Basis}
 use Rattle.market.specs.declared.Basis.the-variants.{Ace, Asoe, Residual}
+use Rattle.records.specs.declared.rows.Entry.{Entry}
 use Rattle.records.specs.declared.rows.Constraint.{Constraint}
 use Rattle.totals.specs.Sums.{entryBy, rowBy, regionOf}
-use Rattle.totals.specs.Divisors.{overRegions}
+use Rattle.totals.specs.Divisors.{countedIn, overRegions}
 use Rattle.totals.specs.Inner.Totals.{entryOf}
 use Rattle.totals.specs.declared.entries.Totals.{Totals}
 use Rattle.sections.proofs.Cases.{five}
+use Rattle.sections.proofs.Total.{total-same}
 use Rattle.totals.proofs.Turns.{entry-with, entries-are}
 use Rattle.book.specs.Book.{Book}
 use Rattle.book.specs.Inner.Accepted.{Sound}
@@ -60,6 +62,10 @@ module _ (B : Book) (a : ℕ) where
   unfolding ownTotalBy
   own-counted p = record { low = λ i l. p .fields .energies i l .region; sums = own-sum }
 
+-- the energy in region g by which the account of this number shares a part
+abbrev pub ownIn : Book → Part → ℕ → ℕ → ℕ
+ownIn B x g a = entryBy (x .basis) (ownEnergy (rowsOfAccount B a .energies) g)
+
 module _ {B : Book} (p : Sound B) (a : ℕ) where
   -- over a constraint's regions
   pub own-constraint : (r : Constraint) (amount : ℕ) → overRegions (entryOf (ownOf B a)) r ≡ ownInPart (partOf (B .entry) r amount) (B .energy) (B .header .energies) a
@@ -70,3 +76,10 @@ module _ {B : Book} (p : Sound B) (a : ℕ) where
   pub own-region : (x : Part) (g : ℕ) → g < 5 → x .mask ≡ 2 ^ g → entryBy (x .basis) (entryOf (ownOf B a) g) ≡ ownInPart x (B .energy) (B .header .energies) a
   unfolding ownInPart
   own-region x g l m = region-energy (own-counted B a p) x g l m
+
+  -- the same of the account's own rows
+  pub rows-constraint : (r : Constraint) (amount : ℕ) → overRegions (ownEnergy (rowsOfAccount B a .energies)) r ≡ ownInPart (partOf (B .entry) r amount) (B .energy) (B .header .energies) a
+  rows-constraint r amount = total-same _ _ 5 (λ g l. ap (λ (x : Entry). countedIn r x g) (sym (own-entry B a g l))) ∙ own-constraint r amount
+
+  pub rows-region : (x : Part) (g : ℕ) → g < 5 → x .mask ≡ 2 ^ g → ownIn B x g a ≡ ownInPart x (B .energy) (B .header .energies) a
+  rows-region x g l m = ap (entryBy (x .basis)) (sym (own-entry B a g l)) ∙ own-region x g l m

@@ -1,9 +1,9 @@
 -- Demand 1: every input gets an answer, and a refusal leaves every byte. Each call's promise fixes its answer; by cases on what the rules fix for the
 -- input, it is one of the answers that the demand allows. Assumes nothing.
-use Prim.Native.Nat.{ℕ}
+use Prim.Native.Nat.{ℕ, zero, suc}
 use mathlib.Core.Path.{_≡_, refl}
 use mathlib.Core.Bool.{Bool, true, false, cond}
-use mathlib.Core.List.{List}
+use mathlib.Core.List.{List, [], _∷_}
 use mathlib.Core.Logic.{inl, inr}
 use borrow.Author.Tests.{leb-true, leb-false}
 use lib.Dec.{eqb, leb}
@@ -33,16 +33,19 @@ use Rattle.nmas_reading.specs.Reading.{TextRead, all, part, rowsRead, numberedR
 use Rattle.nmas_file.specs.File.{fileOutcome}
 use Rattle.balance.specs.Pools.{Found, past, found, poolsIn, poolAt}
 use Rattle.balance.specs.Balance.{answerTo, balancesIn, balanceIf, balanceOf}
-use Rattle.answers.specs.Answers.{verdictAnswer, writtenAnswer, headingAnswer, entryAnswer, poolAnswer, costAnswer, nmasSizeAnswer, nmasRowAnswer, noRowAnswer, nmasEntryAnswer, Called}
+use Rattle.cutoffs.specs.Cutoffs.{stagesIn, stageAt, cutFor, cutsIn, cutIf, cutOf}
+use Rattle.cutoffs.specs.declared.Cut.{Cut}
+use Rattle.answers.specs.Answers.{verdictAnswer, writtenAnswer, headingAnswer, entryAnswer, poolAnswer, cutAnswer, costAnswer, nmasSizeAnswer, nmasRowAnswer, noRowAnswer, nmasEntryAnswer, Called}
 use Rattle.answers.specs.declared.VerdictAnswer.{VerdictAnswer}
 use Rattle.answers.specs.declared.WrittenAnswer.{WrittenAnswer}
 use Rattle.answers.specs.declared.HeadingAnswer.{HeadingAnswer}
 use Rattle.answers.specs.declared.EntryAnswer.{EntryAnswer}
 use Rattle.answers.specs.declared.PoolAnswer.{PoolAnswer}
+use Rattle.answers.specs.declared.CutAnswer.{CutAnswer}
 use Rattle.answers.specs.declared.CostAnswer.{CostAnswer}
 use Rattle.answers.specs.declared.NmasSizeAnswer.{NmasSizeAnswer}
 use Rattle.answers.specs.declared.NmasEntryAnswer.{NmasEntryAnswer}
-use Rattle.demands.specs.Demand1.{onABook, onALength, onABalance, onAStatement, onRewriting, onDispatchRows, onAFile, OneOf, Answered, written, short, refused, CheckAnswered, LengthAnswered, PoolAnswered, HeadingAnswered, EntryAnswered, CostAnswered, NmasSizeAnswered, NmasEntryAnswered, EveryInputIsAnswered}
+use Rattle.demands.specs.Demand1.{onABook, onALength, onABalance, onAStatement, onRewriting, onDispatchRows, onAFile, OneOf, Answered, written, short, refused, CheckAnswered, LengthAnswered, PoolAnswered, CutAnswered, HeadingAnswered, EntryAnswered, CostAnswered, NmasSizeAnswered, NmasEntryAnswered, EveryInputIsAnswered}
 use Rattle.demands.proofs.Numbers.{Among, Within, verdict-numbers, rows-numbers, outcome-numbers, statement-call-numbers, statement-numbers, file-numbers, or-true}
 
 -- ---- the calls that write
@@ -78,6 +81,19 @@ unfolding poolAnswer balanceIf answerTo has
 pooled b t Accepted e past r a = inr (rw a (refl, refl))
 pooled b t Accepted e (found p) r a = inl (rw a (refl, refl))
 pooled b t (Refused number place) e f r a = inr (rw a (more number (verdict-numbers b t number place e), refl))
+
+-- what a stage cut off, or 15
+staged : (cs : List Cut) (index : ℕ) (r : CutAnswer) → r ≡ cutAnswer (stageAt cs index) → CutAnswered r
+unfolding cutAnswer stageAt has
+staged [] index r a = inr (rw a (refl, refl))
+staged (c ∷ cs) zero r a = inl (rw a (refl, refl))
+staged (c ∷ cs) (suc index) r a = staged cs index r a
+
+cut-off : (b t : List ℕ) (v : Verdict) → verdict b t ≡ v → (f : Found) (index : ℕ) (r : CutAnswer) → r ≡ cutAnswer (cutIf v (cutFor (bookOf b) (bookOf (lockedFor b t)) f index)) → CutAnswered r
+unfolding cutAnswer cutIf cutFor has
+cut-off b t Accepted e past index r a = inr (rw a (refl, refl))
+cut-off b t Accepted e (found p) index r a = staged (stagesIn (bookOf b) (bookOf (lockedFor b t)) p) index r a
+cut-off b t (Refused number place) e f index r a = inr (rw a (more number (verdict-numbers b t number place e), refl))
 
 header-answered : (t : Bool) (s : List ℕ) (r : HeadingAnswer) → r ≡ headingAnswer (cond t (heading.Heading (headingAt s)) (heading.Refused 14 0)) → HeadingAnswered r
 unfolding headingAnswer has
@@ -115,13 +131,14 @@ row-answered (part rs t) index r a = inr (rw a (refl, refl))
 -- ---- the demand
 
 pub every-input-is-answered : EveryInputIsAnswered
-unfolding balanceOf balancesIn headingRead lineRead rewritten unpacked payment baseCost has
+unfolding balanceOf balancesIn cutOf cutsIn headingRead lineRead rewritten unpacked payment baseCost has
 every-input-is-answered =
     record {
       check = λ b t. checked b t (verdict b t) refl;
       statement = λ b t account. called onAStatement (outcome b t account) (statement-call-numbers b t account) refl;
       length = λ b t account. sized (outcome b t account) (outcome-numbers b t account);
       balance = λ b t number. pooled b t (verdict b t) refl (poolAt (poolsIn (publicOf (bookOf b))) number);
+      cutoff = λ b t number. cut-off b t (verdict b t) refl (poolAt (poolsIn (publicOf (bookOf b))) number);
       header = λ s. header-answered (isStatement s) s;
       line = λ s index. line-answered (isStatement s) (leb (headingAt s .lines) index) s index;
       rewrite = λ s. called onRewriting (rewritten s) (statement-numbers s (statementBytes (headingAt s) (linesIn s (headingAt s .lines)))) refl;

@@ -7,6 +7,7 @@ pub mod Demand2
 pub mod Demand3
 pub mod Unread
 pub mod Length
+pub mod Explained
 pub mod Example
 pub mod Strength
 pub mod File

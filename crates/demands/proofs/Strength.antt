@@ -1,14 +1,15 @@
 -- What the demands come to, said once more and without their definitions, so that a demand that says less is refused here. Assumes nothing.
 use Prim.Native.Nat.{ℕ, _+_, _*_, _≤_, _<_}
 use mathlib.Core.Path.{_≡_, refl, sym, ap, _∙_}
-use mathlib.Core.Logic.{_⊎_, inl, inr}
+use mathlib.Core.Logic.{_⊎_, inl, inr, _↔_}
 use mathlib.Core.Bool.{Bool, true, false, _||_}
 use mathlib.Core.List.{List, [], _∷_}
 use native.Mathlib.Omega.{arith}
 use borrow.Author.Tests.{eqb-true}
 use lib.Dec.{eqb}
-use lib.IntN.{ℤ, natAbs, _+ℤ_}
+use lib.IntN.{ℤ, pos, natAbs, _+ℤ_, _*ℤ_}
 use lib.ListN.{length}
+use Rattle.numbers.proofs.Ring.{times-cancel}
 use Rattle.sections.specs.declared.Verdict.the-variants.{Accepted}
 use Rattle.sections.proofs.Cases.{zero-one}
 use Rattle.ground.specs.Bytes.{AreBytes, i64At}
@@ -27,10 +28,13 @@ use Rattle.ground.specs.Nth.{nth}
 use Rattle.nmas_reading.specs.Reading.{numberedRow}
 use Rattle.nmas_file.specs.File.{fileRowsFor, fileOutcome}
 use Rattle.balance.specs.Balance.{balanceOf}
-use Rattle.answers.specs.Answers.{verdictAnswer, writtenAnswer, headingAnswer, entryAnswer, poolAnswer, nmasEntryAnswer, Called, EntryCalled}
+use Rattle.cutoffs.specs.Cutoffs.{stagesIn, stageAt, cutOf}
+use Rattle.closing.specs.Explained.{saidBy}
+use Rattle.answers.specs.Answers.{verdictAnswer, writtenAnswer, headingAnswer, entryAnswer, poolAnswer, cutAnswer, nmasEntryAnswer, Called, EntryCalled}
 use Rattle.answers.specs.declared.WrittenAnswer.{WrittenAnswer}
 use Rattle.answers.specs.declared.EntryAnswer.{EntryAnswer}
 use Rattle.answers.specs.declared.PoolAnswer.{PoolAnswer}
+use Rattle.answers.specs.declared.CutAnswer.{CutAnswer}
 use Rattle.answers.specs.declared.CostAnswer.{CostAnswer}
 use Rattle.answers.specs.declared.NmasSizeAnswer.{NmasSizeAnswer}
 use Rattle.answers.specs.declared.NmasEntryAnswer.{NmasEntryAnswer}
@@ -42,6 +46,7 @@ use Rattle.demands.specs.Length.{AskedFirst}
 use Rattle.demands.proofs.Length.{length-is-the-statements}
 use Rattle.demands.proofs.Demand3.{no-neighbours-figure, costs-are-public}
 use Rattle.demands.proofs.Unread.{locked-only-where-read}
+use Rattle.demands.proofs.Explained.{balances-are-explained}
 use Rattle.demands.proofs.Example.{bookA, lockedA, bookB, lockedB, two-pairs-agree}
 
 -- ---- demand 1
@@ -212,5 +217,23 @@ module _ (b t u : List ℕ) (none : readsLocked (bookOf b .contract) (headerOf b
   pub balance-without-tests : (number : ℕ) → poolAnswer (balanceOf b t number) ≡ poolAnswer (balanceOf b u number)
   balance-without-tests number = locked-only-where-read .balance b t u none number _ _ refl refl
 
+  pub cutoff-without-tests : (number index : ℕ) → cutAnswer (cutOf b t number index) ≡ cutAnswer (cutOf b u number index)
+  cutoff-without-tests number index = locked-only-where-read .cutoff b t u none number index _ _ refl refl
+
   pub file-without-tests : (account paymentType : ℕ) (l : List ℕ) (r s : WrittenAnswer) (x y : List ℕ) → Called (fileOutcome b t account paymentType) l r x → Called (fileOutcome b u account paymentType) l s y → (r ≡ s) × (x ≡ y)
   file-without-tests account paymentType l r s x y p q = let same = locked-only-where-read .file b t u none account paymentType l r s x y p q in (same .answer, same .bytes)
+
+-- ---- balances explained
+
+-- amount plus sum is what the stages of the pool say, and no other number is: r is a balance, and c are the pool's cut-offs
+module _ (b l : List ℕ) (number : ℕ) (r : PoolAnswer) (c : ℕ → CutAnswer) (a : r ≡ poolAnswer (balanceOf b l number)) (d : (index : ℕ) → c index ≡ cutAnswer (cutOf b l number index)) where
+  pub only-remainder : (z : r .refusal ≡ 0) → let p = balances-are-explained .balance b l number r c a d z .pool in let said = saidBy (stagesIn (bookOf b) (bookOf (lockedFor b l)) p) in (x : ℤ) → (x *ℤ pos (said .under) ≡ said .over) ↔ (x ≡ r .amount +ℤ r .sum)
+  only-remainder z x =
+      let e = balances-are-explained .balance b l number r c a d z in
+      ((λ h. times-cancel x (r .amount +ℤ r .sum) _ (e .above) (h ∙ sym (e .exact))), λ h. rw h (e .exact))
+
+  pub each-stage-named : (z : r .refusal ≡ 0) → let p = balances-are-explained .balance b l number r c a d z .pool in (index : ℕ) → c index ≡ cutAnswer (stageAt (stagesIn (bookOf b) (bookOf (lockedFor b l)) p) index)
+  each-stage-named z index = balances-are-explained .balance b l number r c a d z .named index
+
+  pub refused-alike : (r .refusal ≡ 0 → ⊥) → (index : ℕ) → (c index .refusal ≡ r .refusal) × (c index .place ≡ r .place)
+  refused-alike z index = balances-are-explained .refused b l number r c a d z index

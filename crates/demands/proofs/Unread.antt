@@ -11,9 +11,11 @@ use Rattle.book.specs.Book.{bookOf}
 use Rattle.book.specs.Table.{check17, check18, locks, lockedFor, verdict}
 use Rattle.settlement.specs.Settle.{outcome}
 use Rattle.balance.specs.Balance.{balanceOf}
+use Rattle.cutoffs.specs.Cutoffs.{cutOf}
 use Rattle.nmas_file.specs.File.{fileOutcome}
-use Rattle.answers.specs.Answers.{poolAnswer}
+use Rattle.answers.specs.Answers.{poolAnswer, cutAnswer}
 use Rattle.answers.specs.declared.PoolAnswer.{PoolAnswer}
+use Rattle.answers.specs.declared.CutAnswer.{CutAnswer}
 use Rattle.demands.specs.Unread.{NoTestPayment, LockedOnlyWhereRead}
 
 module _ (b t u : List ℕ) (n : NoTestPayment b) where
@@ -49,6 +51,13 @@ module _ (b t u : List ℕ) (n : NoTestPayment b) where
   same-pool : (number : ℕ) (r s : PoolAnswer) → r ≡ poolAnswer (balanceOf b t number) → s ≡ poolAnswer (balanceOf b u number) → r ≡ s
   same-pool number r s p q = p ∙ rw (same-balance number) (sym q)
 
+  same-cut : (number index : ℕ) → cutOf b t number index ≡ cutOf b u number index
+  unfolding cutOf
+  same-cut number index = rw (same-verdict, same-book)
+
+  same-stage : (number index : ℕ) (r s : CutAnswer) → r ≡ cutAnswer (cutOf b t number index) → s ≡ cutAnswer (cutOf b u number index) → r ≡ s
+  same-stage number index r s p q = p ∙ rw (same-cut number index) (sym q)
+
 pub locked-only-where-read : LockedOnlyWhereRead
 locked-only-where-read =
     record {
@@ -58,6 +67,7 @@ locked-only-where-read =
           let e = same-outcome b t u n account in
           record { answer = p .answer ∙ rw e (sym (q .answer)); bytes = p .left ∙ rw e (sym (q .left)) };
       balance = λ b t u n number r s p q. same-pool b t u n number r s p q;
+      cutoff = λ b t u n number index r s p q. same-stage b t u n number index r s p q;
       file = λ b t u n account paymentType l r s x y p q.
           let e = same-file b t u n account paymentType in
           record { answer = p .answer ∙ rw e (sym (q .answer)); bytes = p .left ∙ rw e (sym (q .left)) };

@@ -19,13 +19,15 @@ use Rattle.reading.specs.Rewriting.{rewritten}
 use Rattle.unpacking.specs.Unpacking.{unpacked}
 use Rattle.settlement.specs.Settle.{outcome}
 use Rattle.balance.specs.Balance.{balanceOf}
+use Rattle.cutoffs.specs.Cutoffs.{cutOf}
 use Rattle.nmas_file.specs.File.{fileOutcome}
-use Rattle.answers.specs.Answers.{verdictAnswer, writtenAnswer, headingAnswer, entryAnswer, poolAnswer, costAnswer, noRowAnswer, Called, SizeCalled, EntryCalled}
+use Rattle.answers.specs.Answers.{verdictAnswer, writtenAnswer, headingAnswer, entryAnswer, poolAnswer, cutAnswer, costAnswer, noRowAnswer, Called, SizeCalled, EntryCalled}
 use Rattle.answers.specs.declared.VerdictAnswer.{VerdictAnswer}
 use Rattle.answers.specs.declared.WrittenAnswer.{WrittenAnswer}
 use Rattle.answers.specs.declared.HeadingAnswer.{HeadingAnswer}
 use Rattle.answers.specs.declared.EntryAnswer.{EntryAnswer}
 use Rattle.answers.specs.declared.PoolAnswer.{PoolAnswer}
+use Rattle.answers.specs.declared.CutAnswer.{CutAnswer}
 use Rattle.answers.specs.declared.CostAnswer.{CostAnswer}
 use Rattle.answers.specs.declared.NmasSizeAnswer.{NmasSizeAnswer}
 use Rattle.answers.specs.declared.NmasEntryAnswer.{NmasEntryAnswer}
@@ -112,6 +114,11 @@ PoolAnswered r =
     ((r .refusal ≡ 0) × (r .place ≡ 0))
     ⊎ (OneOf onABalance (r .refusal) × (r ≡ record { refusal = r .refusal; place = r .place; amount = pos 0; lines = 0; sum = pos 0 }))
 
+abbrev pub CutAnswered : CutAnswer → Type 0
+CutAnswered r =
+    ((r .refusal ≡ 0) × (r .place ≡ 0))
+    ⊎ (OneOf onABalance (r .refusal) × (r ≡ record { refusal = r .refusal; place = r .place; stage = 0; region = 0; divisor = 0; cut = pos 0 }))
+
 abbrev pub HeadingAnswered : HeadingAnswer → Type 0
 HeadingAnswered r =
     ((r .refusal ≡ 0) × (r .place ≡ 0))
@@ -141,6 +148,10 @@ NmasEntryAnswered r = ((r .refusal ≡ 0) × (r .place ≡ 0)) ⊎ (OneOf onARow
 abbrev pub LengthCall : List ℕ → List ℕ → ℕ → WrittenAnswer → Type 0
 LengthCall b locked account r = r ≡ writtenAnswer (lengthFor (outcome b locked account))
 
+-- the cut-off call likewise, of a pool and of one of its stages, by their numbers
+abbrev pub CutoffCall : List ℕ → List ℕ → ℕ → ℕ → CutAnswer → Type 0
+CutoffCall b locked number index r = r ≡ cutAnswer (cutOf b locked number index)
+
 -- the statement call likewise, with a buffer that held l: r is what it answers, x what the buffer holds then
 abbrev pub StatementCall : List ℕ → List ℕ → ℕ → List ℕ → WrittenAnswer → List ℕ → Type 0
 StatementCall b locked account l r x = Called (outcome b locked account) l r x
@@ -166,6 +177,7 @@ pub record EveryInputIsAnswered : Type 0 where
       → Answered onAStatement (outcome b locked account) l r x
   pub length : (b locked : List ℕ) (account : ℕ) (r : WrittenAnswer) → LengthCall b locked account r → LengthAnswered r
   pub balance : (b locked : List ℕ) (number : ℕ) (r : PoolAnswer) → r ≡ poolAnswer (balanceOf b locked number) → PoolAnswered r
+  pub cutoff : (b locked : List ℕ) (number index : ℕ) (r : CutAnswer) → CutoffCall b locked number index r → CutAnswered r
   pub header : (s : List ℕ) (r : HeadingAnswer) → r ≡ headingAnswer (headingRead s) → HeadingAnswered r
   pub line : (s : List ℕ) (index : ℕ) (r : EntryAnswer) → r ≡ entryAnswer (lineRead s index) → EntryAnswered r
   pub rewrite : (s l : List ℕ) (r : WrittenAnswer) (x : List ℕ) → RewriteCall s l r x → Answered onRewriting (rewritten s) l r x

@@ -4,3 +4,4 @@ pub mod Demand3
 pub mod Length
 pub mod Unread
 pub mod File
+pub mod Explained

@@ -13,7 +13,8 @@ use Rattle.answers.specs.Answers.{verdictAnswer, poolAnswer}
 use Rattle.answers.specs.declared.VerdictAnswer.{VerdictAnswer}
 use Rattle.answers.specs.declared.WrittenAnswer.{WrittenAnswer}
 use Rattle.answers.specs.declared.PoolAnswer.{PoolAnswer}
-use Rattle.demands.specs.Demand1.{LengthCall, StatementCall, FileCall}
+use Rattle.answers.specs.declared.CutAnswer.{CutAnswer}
+use Rattle.demands.specs.Demand1.{LengthCall, CutoffCall, StatementCall, FileCall}
 use Rattle.demands.specs.Demand3.{Same}
 
 -- the book has no contract of kind 2
@@ -28,5 +29,6 @@ pub record LockedOnlyWhereRead : Type 0 where
       → StatementCall b t account l r x → StatementCall b u account l s y → Same r s x y
   pub balance : (b t u : List ℕ) → NoTestPayment b → (number : ℕ) (r s : PoolAnswer) → r ≡ poolAnswer (balanceOf b t number)
       → s ≡ poolAnswer (balanceOf b u number) → r ≡ s
+  pub cutoff : (b t u : List ℕ) → NoTestPayment b → (number index : ℕ) (r s : CutAnswer) → CutoffCall b t number index r → CutoffCall b u number index s → r ≡ s
   pub file : (b t u : List ℕ) → NoTestPayment b → (account paymentType : ℕ) (l : List ℕ) (r s : WrittenAnswer) (x y : List ℕ)
       → FileCall b t account paymentType l r x → FileCall b u account paymentType l s y → Same r s x y

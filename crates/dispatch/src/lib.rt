@@ -70,7 +70,7 @@ impl DispatchRow {
     fn amount(self) -> u64
         ensures { λ a. ⌜ a ≡ amountOf self ⌝ }
     {
-        round::nearest(self.product(), 12)
+        round::nearest(self.product(), 12).whole
     }
 
     // Rows rise where these numbers do; divided by 256 they are id and service.

@@ -7,10 +7,12 @@ ghost use Rattle.reading.specs.Rewriting.{rewritten};
 ghost use Rattle.unpacking.specs.Unpacking.{unpacked};
 ghost use Rattle.settlement.specs.Settle.{outcome};
 ghost use Rattle.balance.specs.Balance.{balanceOf};
+ghost use Rattle.cutoffs.specs.Cutoffs.{cutOf};
 ghost use Rattle.dispatch.specs.Dispatch.{payment, baseCost};
 ghost use Rattle.nmas_file.specs.File.{fileOutcome};
-ghost use Rattle.answers.specs.Answers.{verdictAnswer, writtenAnswer, headingAnswer, entryAnswer, poolAnswer, costAnswer, Called, SizeCalled, EntryCalled};
+ghost use Rattle.answers.specs.Answers.{verdictAnswer, writtenAnswer, headingAnswer, entryAnswer, poolAnswer, cutAnswer, costAnswer, Called, SizeCalled, EntryCalled};
 use answers::CostAnswer;
+use answers::CutAnswer;
 use answers::EntryAnswer;
 use answers::HeadingAnswer;
 use answers::NmasEntryAnswer;
@@ -95,6 +97,19 @@ pub extern "C" fn fervolatro_balance<'a>(
     ensures { λ r. ⌜ r ≡ poolAnswer (balanceOf (now (book .entry)) (now (locked .entry)) number) ⌝ }
 {
     answers::pool(balance::pool_balance(book, locked, number))
+}
+
+// What a rounding stage of a pool cut off, summed over all accounts, both by their numbers from 0.
+#[no_mangle]
+pub extern "C" fn fervolatro_cutoff<'a>(
+    book: &'a [u8],
+    locked: &'a [u8],
+    number: u64,
+    index: u64,
+) -> CutAnswer
+    ensures { λ r. ⌜ r ≡ cutAnswer (cutOf (now (book .entry)) (now (locked .entry)) number index) ⌝ }
+{
+    answers::cut(cutoffs::stage_cut(book, locked, number, index))
 }
 
 // The payment of a service, from dispatch rows.

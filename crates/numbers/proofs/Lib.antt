@@ -1,5 +1,6 @@
 pub mod Bits
 pub mod Signs
-pub mod Rounding
 pub mod Sizes
+pub mod Ring
+pub mod Rounding
 pub mod Products

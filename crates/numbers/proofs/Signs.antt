@@ -1,10 +1,10 @@
 -- Whole numbers by their sign and size, and what 64 bits hold of them. Assumes nothing.
-use Prim.Native.Nat.{ℕ, zero, suc, _+_, _-_, _≤_, _<_, _^_}
+use Prim.Native.Nat.{ℕ, zero, suc, _+_, _-_, _*_, _≤_, _<_, _^_}
 use mathlib.Core.Path.{_≡_, refl, sym, subst}
 use mathlib.Core.Bool.{Bool, true, false, cond}
 use native.Mathlib.Omega.{arith}
 use lib.Dec.{T, ltb, ltb→lt}
-use lib.IntN.{ℤ, pos, negsuc, negℤ, natAbs, subℕ, _+ℤ_, _-ℤ_, +ℤ-idl}
+use lib.IntN.{ℤ, pos, negsuc, negℤ, natAbs, subℕ, _+ℤ_, _-ℤ_, _*ℤ_, +ℤ-idl}
 use mir.Syntax.{w64}
 use mir.Val.{SFits, ofZ}
 use Rattle.numbers.specs.Sign.{signed, negative}
@@ -46,3 +46,16 @@ sum-size (pos a) (pos b) = omega arith
 sum-size (pos a) (negsuc b) = sub-size a (suc b)
 sum-size (negsuc a) (pos b) = omega (arith, sub-size b (suc a))
 sum-size (negsuc a) (negsuc b) = omega arith
+
+-- nor is a difference
+pub minus-size : (a b : ℤ) → natAbs (a -ℤ b) ≤ natAbs a + natAbs b
+minus-size a b = omega (arith, sum-size a (negℤ b), size-negated b)
+
+-- that of a multiple is the multiple
+pub size-times : (x : ℤ) (t : ℕ) → natAbs (x *ℤ pos t) ≡ natAbs x * t
+size-times (pos n) t = refl
+size-times (negsuc n) t = size-negated (pos (suc n * t))
+
+-- a difference of small numbers is one of 64 bits
+pub minus-fits : (a b : ℤ) → natAbs a + natAbs b < 2 ^ 63 → SFits w64 (a -ℤ b)
+minus-fits a b h = sized (a -ℤ b) (omega (arith, minus-size a b))

@@ -3,8 +3,8 @@
 use crate::twos;
 ghost use mathlib.Core.Path.{_≡_};
 ghost use Prim.Native.Nat.{_+_, _<_, _^_};
-ghost use lib.IntN.{natAbs, _+ℤ_};
-ghost use Rattle.numbers.specs.Sign.{signed, negative};
+ghost use lib.IntN.{natAbs, _+ℤ_, _-ℤ_};
+ghost use Rattle.numbers.specs.Sign.{signed, negative, less};
 
 pub fn is_negative(x: i64) -> bool
     ensures { λ r. ⌜ r ≡ negative x ⌝ }
@@ -41,4 +41,19 @@ pub fn plus(a: i64, b: i64) -> i64
     ensures { λ r. ⌜ r ≡ a +ℤ b ⌝ }
 {
     a + b
+}
+
+pub fn minus(a: i64, b: i64) -> i64
+    requires { ⌜ natAbs a + natAbs b < 2 ^ 63 ⌝ }
+    ensures { λ r. ⌜ r ≡ a -ℤ b ⌝ }
+{
+    a - b
+}
+
+// What one size is less another.
+pub fn difference(a: u64, b: u64) -> i64
+    requires { ⌜ (a < 2 ^ 63) × (b < 2 ^ 63) ⌝ }
+    ensures { λ r. ⌜ r ≡ less a b ⌝ }
+{
+    (a as i64) - (b as i64)
 }

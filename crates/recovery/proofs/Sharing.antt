@@ -4,6 +4,7 @@ use Prim.Native.Nat.{ℕ, _≤_, _<_, _*_}
 use mathlib.Core.Path.{_≡_, refl}
 use mathlib.Core.Bool.{true}
 use native.Mathlib.Omega.{arith}
+use lib.IntN.{ℤ, natAbs}
 use Rattle.sections.proofs.Total.{total-bound}
 use Rattle.rules.specs.Rules.{factorOf}
 use Rattle.records.specs.declared.rows.Constraint.{Constraint}
@@ -15,10 +16,10 @@ use Rattle.amounts.specs.Inner.Bounds.{SmallResidual, SmallHalves, SmallPools}
 use Rattle.amounts.specs.Pools.{poolsOf, halvesOf}
 use Rattle.amounts.specs.declared.pools.Residual.{Residual}
 use Rattle.amounts.proofs.Sizes.{pools-small, residual-small, halves-small}
-use Rattle.sharing.specs.Inner.Shares.{Sorted, Shareable, partSum}
+use Rattle.sharing.specs.Inner.Shares.{Sorted, Shareable, partSum, partCut}
 use Rattle.recovery.specs.ByKind.{creditBy, chargeBy, poolBy}
 use Rattle.recovery.specs.Inner.Shapes.{partOf, consumedPart, sentPart, recoveryOf}
-use Rattle.recovery.specs.Inner.Rests.{PaidBy, PartIs}
+use Rattle.recovery.specs.Inner.Rests.{PaidBy, PartIs, CutIs}
 use Rattle.recovery.specs.declared.kinds.Kind.{Kind}
 use Rattle.recovery.specs.declared.kinds.Kind.the-variants.{Contingency, Fpp, Used, Unused, Payment}
 use Rattle.recovery.proofs.Energy.{Counted, constraint-energy, region-energy}
@@ -114,6 +115,9 @@ module _ {E : Energies} (p : EnergiesSound E) (r : Constraint) (amount whole : �
 
   pub over-is : {x : ℕ} → (x ≡ partSum (record { amount = amount; whole = whole; mask = r .mask; basis = basis }) (E .row) (E .rows)) × (x ≤ 51_200_000_000_000) → PartIs E r amount x
   over-is s = record { sum = rw part-is at (s .0); small = s .1 }
+
+  pub cut-is : {x : ℤ} → (x ≡ partCut (record { amount = amount; whole = whole; mask = r .mask; basis = basis }) (E .row) (E .rows)) × (natAbs x ≤ 51_200_000_000) → CutIs E r amount x
+  cut-is s = record { cut = rw part-is at (s .0); small = s .1 }
 
 -- ---- what a regulation pool rests on is small
 

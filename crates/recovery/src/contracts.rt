@@ -57,8 +57,8 @@ fn row_pays(
     if factors[g] == 0 {
         return 0;
     }
-    shares::owned_share(consumed[g], r.ace as u64, ace[g])
-        + shares::owned_share(sent[g], r.asoe as u64, asoe[g])
+    shares::owned_share(consumed[g], r.ace as u64, ace[g]).whole
+        + shares::owned_share(sent[g], r.asoe as u64, asoe[g]).whole
 }
 
 // What all accounts pay, in one pass over the energy rows.

@@ -1,13 +1,16 @@
 -- All accounts of a book, and of two: who they are, each once, and that sums over them count each row once. Assumes nothing.
 use Prim.Native.Nat.{ℕ, _+_, _*_, _≤_}
-use mathlib.Core.Path.{_≡_, refl, _∙_, sym, ap}
+use mathlib.Core.Path.{_≡_, refl, _∙_, sym, ap, ap₂}
 use mathlib.Core.List.{List, []}
 use mathlib.Core.Bool.{Bool, true, false, cond, not, _&&_, _||_, or-true, or-false}
 use native.Mathlib.Omega.{arith}
+use native.Mathlib.Nat.{mul-zero, zero-mul}
 use lib.Dec.{eqb}
+use lib.IntN.{pos}
 use lib.ListN.{length}
 use Rattle.numbers.specs.Round.{roundN}
-use Rattle.numbers.proofs.Rounding.{share-nothing}
+use Rattle.numbers.specs.Sign.{less}
+use Rattle.numbers.proofs.Rounding.{share-nothing, round-zero, cut-none}
 use Rattle.sections.specs.Total.{total}
 use Rattle.sections.specs.Search.{some}
 use Rattle.sections.proofs.Cases.{zero-one}
@@ -15,15 +18,16 @@ use Rattle.sections.proofs.Total.{total-zero}
 use Rattle.records.specs.declared.rows.UnitRow.{UnitRow}
 use Rattle.records.specs.declared.rows.EnergyRow.{EnergyRow}
 use Rattle.book.specs.Book.{Book}
-use Rattle.accounts.specs.Rows.{sumOf, none}
+use Rattle.accounts.specs.Rows.{sumOf, sumZ, none}
 use Rattle.accounts.specs.Account.{rowsOfAccount, lockedOf, unknown, unnamed}
 use Rattle.accounts.proofs.Lists.{some-rows}
 use Rattle.sharing.specs.Once.{has, named, times}
 use Rattle.sharing.specs.Inner.Seen.{seen}
 use Rattle.sharing.specs.Accounts.{energyAccount, unitAccount, accountsWith, accountsIn}
-use Rattle.sharing.specs.Inner.Shares.{energyIn, ownInPart, shareIn, partSum}
+use Rattle.sharing.specs.Inner.Shares.{energyIn, ownInPart, shareIn, partSum, cutIn, partCut, Shareable}
 use Rattle.sharing.specs.declared.shares.Part.{Part}
-use Rattle.sharing.proofs.Once.{seen-each, unseen-each, has-named, once-named, once-none, length-named, sum-each, named-known, EachOnce, sum-once}
+use Rattle.sharing.proofs.Sums.{sum-same, sum-none, sum-times, times-sum, sum-less, signed-none}
+use Rattle.sharing.proofs.Once.{seen-each, unseen-each, has-named, once-named, once-none, length-named, sum-each, named-known, EachOnce, names-once, sum-once}
 
 -- ---- the accounts
 
@@ -123,14 +127,28 @@ share-choice amount whole false own = sym (share-nothing amount whole refl)
 
 module _ (p : Part) (energy : ℕ → EnergyRow) (n : ℕ) where
   -- who is in no energy row has no energy
-  pub own-none : (a : ℕ) → seen (energyAccount energy) n a ≡ false → ownInPart p energy n a ≡ 0
+  own-none : (a : ℕ) → seen (energyAccount energy) n a ≡ false → ownInPart p energy n a ≡ 0
   unfolding ownInPart
   own-none a e = sym (total-zero _ n (λ k l. rw (unseen-each (energyAccount energy) n a e k l)))
 
   -- and a share of 0
-  pub share-none : (a : ℕ) → seen (energyAccount energy) n a ≡ false → shareIn p energy n a ≡ 0
+  share-none : (a : ℕ) → seen (energyAccount energy) n a ≡ false → shareIn p energy n a ≡ 0
   unfolding shareIn
   share-none a e = sym (share-nothing (p .amount) (p .whole) (own-none a e))
+
+  -- of nothing all shares are 0, and nothing is cut off
+  pub nothing-shared : p .amount ≡ 0 → partSum p energy n ≡ 0
+  unfolding partSum shareIn
+  nothing-shared e = sum-same _ (λ a. 0) _ (λ a. rw (e, zero-mul) (round-zero (p .whole))) ∙ sum-none _
+
+  pub nothing-cut : p .amount ≡ 0 → partCut p energy n ≡ pos 0
+  unfolding partCut cutIn
+  nothing-cut e = signed-none _ _ (λ a. rw (e, zero-mul) (cut-none (p .whole)))
+
+  -- what the shares of any accounts cut off: exact less rounded
+  cuts-apart : (l : List ℕ) → sumZ (cutIn p energy n) l ≡ less (sumOf (λ a. p .amount * ownInPart p energy n a) l) (sumOf (λ a. shareIn p energy n a * p .whole) l)
+  unfolding cutIn shareIn
+  cuts-apart l = sum-less _ (λ a. p .amount * ownInPart p energy n a) _ l (λ a. refl)
 
   -- of any list in which each account of an energy row stands once
   module _ (all : List ℕ) (o : EachOnce (energyAccount energy) n all) where
@@ -143,6 +161,27 @@ module _ (p : Part) (energy : ℕ → EnergyRow) (n : ℕ) where
     pub own-sum : sumOf (ownInPart p energy n) all ≡ total (λ i. energyIn p (energy i)) n
     unfolding ownInPart
     own-sum = sum-each (energyAccount energy) (λ i. energyIn p (energy i)) all n (λ k l. o .once (energy k .account) (seen-each (energyAccount energy) n k l))
+
+    -- what the shares cut off is what those of the accounts that energy rows name do
+    pub cut-everyone : partCut p energy n ≡ sumZ (cutIn p energy n) all
+    unfolding partCut
+    cut-everyone =
+        cuts-apart (named (energyAccount energy) n [])
+        ∙ sym
+        (cuts-apart all
+        ∙ ap₂ less
+        (sum-once (λ a. p .amount * ownInPart p energy n a) (energyAccount energy) n (λ a e. rw (own-none a e) (mul-zero (p .amount))) all o)
+        (sum-once (λ a. shareIn p energy n a * p .whole) (energyAccount energy) n (λ a e. rw (share-none a e) (zero-mul (p .whole))) all o))
+
+  -- where the rows make the whole, it is the amount less what all accounts share of it
+  pub part-cut-is : Shareable p energy n → partCut p energy n ≡ less (p .amount * p .whole) (partSum p energy n * p .whole)
+  unfolding partCut partSum
+  part-cut-is h =
+      let names = named (energyAccount energy) n [] in
+      cuts-apart names
+      ∙ ap₂ less
+      (sum-times (p .amount) (ownInPart p energy n) names ∙ ap (λ (t : ℕ). p .amount * t) (own-sum names (names-once (energyAccount energy) n) ∙ sym (h .whole)))
+      (times-sum (shareIn p energy n) (p .whole) names)
 
 -- unit rows likewise, each counted once
 pub each-once-unit : (unit : ℕ → UnitRow) (m : ℕ) (all : List ℕ) → EachOnce (unitAccount unit) m all → (f : ℕ → ℕ) → sumOf (λ a. total (λ u. cond (eqb (unit u .account) a) (f u) 0) m) all ≡ total f m

@@ -1,5 +1,5 @@
 -- Energy rows account by account: an account's rows stand side by side, so that its share is made as they pass. Assumes nothing.
-use Prim.Native.Nat.{ℕ, zero, suc, _+_, _*_, _≤_, _<_}
+use Prim.Native.Nat.{ℕ, zero, suc, _+_, _*_, _≤_, _<_, _^_}
 use mathlib.Core.Path.{_≡_, refl, ap, _∙_, sym}
 use mathlib.Core.List.{[], _∷_}
 use mathlib.Core.Bool.{Bool, true, false, cond}
@@ -8,8 +8,10 @@ use native.Mathlib.Omega.{arith}
 use native.Mathlib.Nat.{eq-or-lt-of-le, not-suc-le-zero, le-of-suc-le-suc, le-refl, le-trans, le-of-eq, mul-le-mul, add-comm, one-mul, zero-mul}
 use borrow.Author.Tests.{eq-eqb}
 use mir.Val.{boolByte}
-use Rattle.numbers.specs.Round.{roundN}
-use Rattle.numbers.proofs.Rounding.{round-share}
+use lib.IntN.{ℤ, pos, natAbs, _+ℤ_, +ℤ-comm}
+use Rattle.numbers.specs.Round.{Rounds}
+use Rattle.numbers.specs.declared.round.Rounded.{Rounded}
+use Rattle.numbers.proofs.Rounding.{round-share, cut-half}
 use Rattle.sections.specs.Total.{total, keyed}
 use Rattle.sections.specs.Inner.Walk.{Stands, Past}
 use Rattle.sections.proofs.Total.{total-bound, total-under, keyed-le}
@@ -20,15 +22,15 @@ use Rattle.rules.specs.Inner.Facts.{EnergyRule}
 use Rattle.records.specs.declared.rows.EnergyRow.{EnergyRow}
 use Rattle.totals.specs.Sums.{rowBy}
 use Rattle.totals.proofs.Turns.{row-small}
-use Rattle.accounts.specs.Rows.{sumOf}
+use Rattle.accounts.specs.Rows.{sumOf, sumZ}
 use Rattle.sharing.specs.Once.{has, joinNew, named}
 use Rattle.sharing.specs.Inner.Seen.{seen}
 use Rattle.sharing.specs.Accounts.{energyAccount}
-use Rattle.sharing.specs.Inner.Shares.{energyIn, ownInPart, shareIn, partSum, Sorted, Shareable}
+use Rattle.sharing.specs.Inner.Shares.{energyIn, ownInPart, shareIn, partSum, cutIn, partCut, Sorted, Shareable}
 use Rattle.sharing.specs.Inner.Groups.{GroupIs}
 use Rattle.sharing.specs.declared.shares.Group.{Group}
 use Rattle.sharing.specs.declared.shares.Part.{Part}
-use Rattle.sharing.proofs.Sums.{sum-bound}
+use Rattle.sharing.proofs.Sums.{sum-bound, signed-halves}
 use Rattle.sharing.proofs.Once.{seen-none, has-named, length-named}
 use Rattle.sharing.proofs.InOrder.{in-order}
 
@@ -130,19 +132,16 @@ names-run name i (suc j) l h s =
 -- ---- account after account
 
 module _ (p : Part) (energy : ℕ → EnergyRow) (n : ℕ) where
-  -- the rows before i are whole accounts, and x is the sum of their shares
-  pub record Passed (i x : ℕ) : Type 0 where
+  -- the rows before i are whole accounts
+  pub record Accounts (i : ℕ) : Type 0 where
     pub within : i ≤ n
     pub stands : i < n → Stands (energyAccount energy) n (energy i .account) i
-    pub sum : x ≡ sumOf (shareIn p energy n) (named (energyAccount energy) i [])
 
-  pub pass-start : Sorted energy n → Passed 0 0
-  unfolding named sumOf
-  pass-start s =
+  none-yet : Sorted energy n → Accounts 0
+  none-yet s =
       record {
         within = omega arith;
         stands = λ l. record { high = omega arith; under = λ k m. absurd (not-suc-le-zero m); over = λ k m j. s .order .first 0 k m j };
-        sum = refl;
       }
 
   -- a group ends behind its first row
@@ -150,21 +149,40 @@ module _ (p : Part) (energy : ℕ → EnergyRow) (n : ℕ) where
   group-moves {i} {g} h l =
       ⊎-elim (λ (a : i < g .end). a) (λ (a : g .end ≤ i). absurd (omega (arith, h .behind .over i a l))) (lt-or-ge i (g .end))
 
-  -- y is the share of the account of row i
-  pub pass-more : {i x y : ℕ} {g : Group} → Sorted energy n → Passed i x → i < n → GroupIs p energy n i g → y ≡ roundN (p .amount * g .own) (p .whole) → Passed (g .end) (x + y)
+  -- one account more: that of row i
+  module _ {i : ℕ} {g : Group} (s : Sorted energy n) (h : Accounts i) (l : i < n) (b : GroupIs p energy n i g) where
+    one-more : Accounts (g .end)
+    one-more =
+        record {
+          within = b .behind .high;
+          stands = λ m. record {
+            high = b .behind .high;
+            under = λ k j. omega (arith, b .behind .under k j, b .behind .over (g .end) (le-refl (g .end)) m);
+            over = λ k a j. s .order .first (g .end) k a j;
+          };
+        }
+
+    name-more : named (energyAccount energy) (g .end) [] ≡ energyAccount energy i ∷ named (energyAccount energy) i []
+    name-more =
+        let t = h .stands l in
+        let name = energyAccount energy in
+        names-run name i (g .end) (group-moves b l) (λ k a j. omega (arith, b .behind .under k j, t .over k a (omega (arith, b .behind .high)))) (seen-none name i (name i) (λ k j z. omega (arith, t .under k j)))
+
+  -- ---- their shares, summed
+
+  pub record Passed (i x : ℕ) : Type 0 where
+    pub rows : Accounts i
+    pub sum : x ≡ sumOf (shareIn p energy n) (named (energyAccount energy) i [])
+
+  pub pass-start : Sorted energy n → Passed 0 0
+  unfolding named sumOf
+  pass-start s = record { rows = none-yet s; sum = refl }
+
+  -- r is the share of the account of row i
+  pub pass-more : {i x : ℕ} {r : Rounded} {g : Group} → Sorted energy n → Passed i x → i < n → GroupIs p energy n i g → Rounds (p .amount * g .own) (p .whole) r → Passed (g .end) (x + r .whole)
   unfolding sumOf shareIn
-  pass-more {i} {x} {y} {g} s h l b q =
-      let t = h .stands l in
-      let name = energyAccount energy in
-      record {
-        within = b .behind .high;
-        stands = λ m. record {
-          high = b .behind .high;
-          under = λ k j. omega (arith, b .behind .under k j, b .behind .over (g .end) (le-refl (g .end)) m);
-          over = λ k a j. s .order .first (g .end) k a j;
-        };
-        sum = rw (names-run name i (g .end) (group-moves b l) (λ k a j. omega (arith, b .behind .under k j, t .over k a (omega (arith, b .behind .high)))) (seen-none name i (name i) (λ k j z. omega (arith, t .under k j))), q, b .own, h .sum) (add-comm _ _);
-      }
+  pass-more s h l b q =
+      record { rows = one-more s (h .rows) l b; sum = rw (name-more s (h .rows) l b, q .whole, b .own, h .sum) (add-comm _ _) }
 
   pub pass-end : {i x : ℕ} → Passed i x → i ≡ n → x ≡ partSum p energy n
   unfolding partSum
@@ -179,9 +197,42 @@ module _ (p : Part) (energy : ℕ → EnergyRow) (n : ℕ) where
       (mul-le-mul (omega (arith, length-named (energyAccount energy) i [])) (le-refl (p .amount)))
 
   pub pass-small : {i x : ℕ} → Sorted energy n → Shareable p energy n → Passed i x → x ≤ 51_200_000_000_000
-  pass-small {i} {x} s h g = rw (g .sum) (omega (arith, few-shares s h i (g .within), h .small))
+  pass-small {i} {x} s h g = rw (g .sum) (omega (arith, few-shares s h i (g .rows .within), h .small))
 
-  -- shares of nothing
-  pub part-nothing : Sorted energy n → Shareable p energy n → p .amount ≡ 0 → 0 ≡ partSum p energy n
-  unfolding partSum
-  part-nothing s h e = omega (arith, few-shares s h n (le-refl n), e)
+  -- ---- what was cut off them, summed
+
+  pub record CutTo (i : ℕ) (x : ℤ) : Type 0 where
+    pub rows : Accounts i
+    pub cut : x ≡ sumZ (cutIn p energy n) (named (energyAccount energy) i [])
+
+  pub cut-start : Sorted energy n → CutTo 0 (pos 0)
+  unfolding named sumZ
+  cut-start s = record { rows = none-yet s; cut = refl }
+
+  -- y has what the share r of the account of row i cut off, too
+  pub cut-more : {i : ℕ} {x y : ℤ} {r : Rounded} {g : Group} → Sorted energy n → CutTo i x → i < n → GroupIs p energy n i g → Rounds (p .amount * g .own) (p .whole) r → y ≡ x +ℤ r .cut → CutTo (g .end) y
+  unfolding sumZ cutIn
+  cut-more {i} s h l b q e =
+      record {
+        rows = one-more s (h .rows) l b;
+        cut =
+            e
+            ∙ rw (name-more s (h .rows) l b, q .cut, b .own, h .cut)
+            (+ℤ-comm (sumZ (cutIn p energy n) (named (energyAccount energy) i [])) (cutIn p energy n (energyAccount energy i)));
+      }
+
+  -- each cuts off at most half of the whole
+  few-cuts : Sorted energy n → Shareable p energy n → (i : ℕ) → i ≤ n → natAbs (sumZ (cutIn p energy n) (named (energyAccount energy) i [])) ≤ 51_200_000_000
+  unfolding cutIn
+  few-cuts s h i l =
+      omega (arith, signed-halves (cutIn p energy n) 100_000_000 (named (energyAccount energy) i []) (λ a. le-trans (cut-half (p .amount * ownInPart p energy n a) (p .whole) (h .above)) (h .below)), length-named (energyAccount energy) i [], s .few)
+
+  -- r is a share: what it cut off fits into the sum
+  pub cut-room : (own : ℕ) {i : ℕ} {x : ℤ} {r : Rounded} → Sorted energy n → Shareable p energy n → CutTo i x → Rounds (p .amount * own) (p .whole) r → natAbs x + natAbs (r .cut) < 2 ^ 63
+  cut-room own {i} s h g q =
+      omega (arith, ap natAbs (g .cut), few-cuts s h i (g .rows .within), ap natAbs (q .cut), cut-half (p .amount * own) (p .whole) (h .above), h .below)
+
+  pub cut-end : {i : ℕ} {x : ℤ} → Sorted energy n → Shareable p energy n → CutTo i x → i ≡ n → (x ≡ partCut p energy n) × (natAbs x ≤ 51_200_000_000)
+  unfolding partCut
+  cut-end {i} s h g e =
+      (g .cut ∙ ap (λ (k : ℕ). sumZ (cutIn p energy n) (named (energyAccount energy) k [])) e, rw (g .cut) (few-cuts s h i (g .rows .within)))

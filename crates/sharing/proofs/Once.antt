@@ -165,17 +165,21 @@ named-known name (suc n) l h = rw (named-known name n l (λ k m. h k (omega arit
 pub record EachOnce (name : ℕ → ℕ) (n : ℕ) (l : List ℕ) : Type 0 where
   pub once : (a : ℕ) → seen name n a ≡ true → times a l ≡ 1
 
-module _ (g : ℕ → ℕ) (name : ℕ → ℕ) (n : ℕ) (none : (a : ℕ) → seen name n a ≡ false → g a ≡ 0) where
-  is-named : (a : ℕ) → has a (named name n []) ≡ seen name n a
-  unfolding has
-  is-named a = has-named name n [] a ∙ or-false (seen name n a)
+is-named : (name : ℕ → ℕ) (n a : ℕ) → has a (named name n []) ≡ seen name n a
+unfolding has
+is-named name n a = has-named name n [] a ∙ or-false (seen name n a)
 
+-- the list of these names is one
+pub names-once : (name : ℕ → ℕ) (n : ℕ) → EachOnce name n (named name n [])
+names-once name n = record { once = λ a e. once-named name n [] once-none a ∙ rw (is-named name n a, e) }
+
+module _ (g : ℕ → ℕ) (name : ℕ → ℕ) (n : ℕ) (none : (a : ℕ) → seen name n a ≡ false → g a ≡ 0) where
   -- a name's own number, found among the records' names
   own-number : (y : ℕ) → sumOf (λ x. cond (eqb y x) (g x) 0) (named name n []) ≡ g y
   own-number y =
       sum-same _ (λ x. cond (eqb y x) (g y) 0) (named name n []) (λ x. same x (eqb y x) refl)
       ∙ sum-at y (g y) (named name n [])
-      ∙ rw (once-named name n [] once-none y, is-named y) (counted (seen name n y) refl)
+      ∙ rw (once-named name n [] once-none y, is-named name n y) (counted (seen name n y) refl)
     where
       same : (x : ℕ) (t : Bool) → eqb y x ≡ t → cond t (g x) 0 ≡ cond t (g y) 0
       same x true e = rw (eqb-true y x e)

@@ -15,12 +15,12 @@ use Rattle.sections.proofs.Total.{total-zero, total-same}
 use Rattle.market.specs.Kinds.{bitSet}
 use Rattle.records.specs.declared.rows.EnergyRow.{EnergyRow}
 use Rattle.totals.specs.Sums.{rowBy}
-use Rattle.sharing.specs.Once.{has, named}
+use Rattle.sharing.specs.Once.{named}
 use Rattle.sharing.specs.Accounts.{energyAccount}
 use Rattle.sharing.specs.Inner.Shares.{energyIn, ownInPart, shareIn, partSum, Sorted}
 use Rattle.sharing.specs.declared.shares.Part.{Part}
 use Rattle.sharing.proofs.Sums.{sum-same}
-use Rattle.sharing.proofs.Once.{seen-each, has-named, once-named, once-none, sum-each}
+use Rattle.sharing.proofs.Once.{seen-each, sum-each, names-once}
 use Rattle.sharing.proofs.Everyone.{share-choice}
 
 -- ---- of numbers of which one at most is not 0, what is made of the sum is the sum of what is made of each
@@ -68,9 +68,9 @@ module _ (p : Part) (energy : ℕ → EnergyRow) (n g : ℕ) (s : Sorted energy 
 
   -- and the shares of all accounts are those of the region's rows
   pub part-rows : partSum p energy n ≡ totalOf (λ i. energy i .region) g (λ i. roundN (p .amount * rowBy (p .basis) (energy i)) (p .whole)) n
-  unfolding partSum has keyed
+  unfolding partSum keyed
   part-rows =
       let accounts = named (energyAccount energy) n [] in
       sum-same _ _ accounts share-rows
-      ∙ sum-each (energyAccount energy) _ accounts n (λ k l. once-named (energyAccount energy) n [] once-none (energy k .account) ∙ rw (has-named (energyAccount energy) n [] (energy k .account), seen-each (energyAccount energy) n k l))
+      ∙ sum-each (energyAccount energy) _ accounts n (λ k l. names-once (energyAccount energy) n .once (energy k .account) (seen-each (energyAccount energy) n k l))
       ∙ total-same _ _ n (λ i l. ap (λ (x : ℕ). roundN (p .amount * x) (p .whole)) (counts i l) ∙ share-choice (p .amount) (p .whole) (eqb (energy i .region) g) (rowBy (p .basis) (energy i)))

@@ -1,15 +1,17 @@
-// A part of a pool that is shared by energy: what the rounded shares of all accounts sum to, in one pass over the energy rows.
+// A part of a pool that is shared by energy: what the rounded shares of all accounts sum to, and what was cut off them, in one pass over the energy rows.
 ghost use mathlib.Core.Path.{_≡_};
 ghost use Prim.Native.Nat.{_*_, _≤_, _<_};
+ghost use lib.IntN.{natAbs};
 ghost use lib.ListN.{length};
 ghost use Rattle.sections.specs.Inner.Walk.{Stands};
 ghost use Rattle.rules.specs.Inner.Facts.{EnergyRule};
 ghost use Rattle.records.specs.Rows.{energyRow};
 ghost use Rattle.sharing.specs.Inner.Groups.{GroupIs};
 ghost use Rattle.sharing.specs.Accounts.{energyAccount};
-ghost use Rattle.sharing.specs.Inner.Shares.{energyIn, partSum, Sorted, Shareable};
+ghost use Rattle.sharing.specs.Inner.Shares.{energyIn, partSum, partCut, Sorted, Shareable};
 use market::Basis;
 use market::Region;
+use numbers::sign;
 use records::rows;
 use records::rows::EnergyRow;
 use totals::entries;
@@ -74,8 +76,32 @@ pub fn part_sum(energy: &[u8], n: usize, p: Part) -> u64
     let mut i = 0;
     while i < n {
         let g = gather(energy, n, i, p);
-        sum += amounts::shares::owned_share(p.amount, g.own, p.whole);
+        sum += amounts::shares::owned_share(p.amount, g.own, p.whole).whole;
         i = g.end;
     }
     sum
+}
+
+// What was cut off these shares, over the whole. It is a pass of its own, so that who wants the sum of the shares alone does not pay for it. Who owns
+// nothing is divided for too: which accounts do not, a branch would often guess wrong.
+pub fn part_cut(energy: &[u8], n: usize, p: Part) -> i64
+    requires { ⌜ n * 24 ≤ length (now energy) ⌝ }
+    requires { ⌜ Sorted (energyRow (now energy)) n ⌝ }
+    requires { ⌜ Shareable p (energyRow (now energy)) n ⌝ }
+    ensures { λ x. ⌜ (x ≡ partCut p (energyRow (now (energy .entry))) n) × (natAbs x ≤ 51_200_000_000) ⌝ }
+{
+    if p.amount == 0 {
+        return 0;
+    }
+    let mut cut: i64 = 0;
+    let mut row = 0;
+    while row < n {
+        let g = gather(energy, n, row, p);
+        cut = sign::plus(
+            cut,
+            amounts::shares::rounded_share(p.amount, g.own, p.whole).cut,
+        );
+        row = g.end;
+    }
+    cut
 }

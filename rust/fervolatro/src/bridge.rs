@@ -4,7 +4,7 @@
 //! FERVOLATRO_BRIDGE is set, the program that it names is started instead, with no
 //! arguments.
 
-use crate::calls::{Books, Cost, Entry, Heading, NmasEntry, NmasSize, Pool, Verdict, Written};
+use crate::calls::{Books, Cost, Cut, Entry, Heading, NmasEntry, NmasSize, Pool, Verdict, Written};
 use std::cell::RefCell;
 use std::env;
 use std::io::{Read, Write};
@@ -151,6 +151,22 @@ pub(crate) fn balance(books: Books, pool: u64) -> Pool {
         amount: amount.cast_signed(),
         lines,
         sum: sum.cast_signed(),
+    }
+}
+
+pub(crate) fn cutoff(books: Books, pool: u64, index: u64) -> Cut {
+    let mut request = request_on(b'o', books);
+    request.extend_from_slice(&pool.to_le_bytes());
+    request.extend_from_slice(&index.to_le_bytes());
+    let [refusal, place, stage, region, divisor, cut] = ask(&request);
+    Cut {
+        refusal,
+        place,
+        stage,
+        region,
+        divisor,
+        // The bits are those of the signed number.
+        cut: cut.cast_signed(),
     }
 }
 

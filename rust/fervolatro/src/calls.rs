@@ -45,6 +45,17 @@ pub(crate) struct Pool {
     pub(crate) sum: i64,
 }
 
+/// `fervolatro_cut` of `include/fervolatro.h`.
+#[repr(C)]
+pub(crate) struct Cut {
+    pub(crate) refusal: u64,
+    pub(crate) place: u64,
+    pub(crate) stage: u64,
+    pub(crate) region: u64,
+    pub(crate) divisor: u64,
+    pub(crate) cut: i64,
+}
+
 /// `fervolatro_heading` of `include/fervolatro.h`.
 #[repr(C)]
 pub(crate) struct Heading {
@@ -157,18 +168,18 @@ impl Cost {
 
 #[cfg(not(any(target_arch = "x86_64", feature = "native")))]
 pub(crate) use crate::bridge::{
-    balance, base_cost, check, header, length, line, lines, nmas, nmas_row, nmas_rows, payment,
-    rewrite, statement,
+    balance, base_cost, check, cutoff, header, length, line, lines, nmas, nmas_row, nmas_rows,
+    payment, rewrite, statement,
 };
 #[cfg(any(target_arch = "x86_64", feature = "native"))]
 pub(crate) use linked::{
-    balance, base_cost, check, header, length, line, lines, nmas, nmas_row, nmas_rows, payment,
-    rewrite, statement,
+    balance, base_cost, check, cutoff, header, length, line, lines, nmas, nmas_row, nmas_rows,
+    payment, rewrite, statement,
 };
 
 #[cfg(any(target_arch = "x86_64", feature = "native"))]
 mod linked {
-    use super::{Books, Cost, Entry, Heading, NmasEntry, NmasSize, Pool, Verdict, Written};
+    use super::{Books, Cost, Cut, Entry, Heading, NmasEntry, NmasSize, Pool, Verdict, Written};
 
     extern "C" {
         fn fervolatro_check(
@@ -203,6 +214,15 @@ mod linked {
             locked_len: usize,
             pool: u64,
         ) -> Pool;
+
+        fn fervolatro_cutoff(
+            book: *const u8,
+            book_len: usize,
+            locked: *const u8,
+            locked_len: usize,
+            pool: u64,
+            index: u64,
+        ) -> Cut;
 
         fn fervolatro_header(statement: *const u8, statement_len: usize) -> Heading;
 
@@ -291,6 +311,20 @@ mod linked {
         }
     }
 
+    pub(crate) fn cutoff(Books { book, locked }: Books, pool: u64, index: u64) -> Cut {
+        // SAFETY: as for a check.
+        unsafe {
+            fervolatro_cutoff(
+                book.as_ptr(),
+                book.len(),
+                locked.as_ptr(),
+                locked.len(),
+                pool,
+                index,
+            )
+        }
+    }
+
     pub(crate) fn header(statement: &[u8]) -> Heading {
         // SAFETY: as for a check.
         unsafe { fervolatro_header(statement.as_ptr(), statement.len()) }
@@ -365,7 +399,7 @@ mod linked {
 
 #[cfg(test)]
 mod tests {
-    use super::{Cost, Entry, Heading, NmasEntry, NmasSize, Pool, Refusal, Verdict, Written};
+    use super::{Cost, Cut, Entry, Heading, NmasEntry, NmasSize, Pool, Refusal, Verdict, Written};
     use std::mem::offset_of;
 
     const HEADER: &str = include_str!("../../../include/fervolatro.h");
@@ -397,6 +431,7 @@ mod tests {
         assert_layout!(Verdict, "fervolatro_verdict", 16: refusal place);
         assert_layout!(Written, "fervolatro_written", 24: refusal place length);
         assert_layout!(Pool, "fervolatro_pool", 40: refusal place amount lines sum);
+        assert_layout!(Cut, "fervolatro_cut", 48: refusal place stage region divisor cut);
         assert_layout!(Heading, "fervolatro_heading", 56:
             refusal place account date interval run lines);
         assert_layout!(Entry, "fervolatro_entry", 56:

@@ -67,6 +67,29 @@ numbered! {
     }
 }
 
+numbered! {
+    /// A stage of rounding between a pool and its lines, in the order in which a pool has
+    /// them. What stages cut off is why a balance is not nil.
+    Stage {
+        Line = 1, "the lines of a contingency constraint";
+        Pool = 2, "the making of a pool";
+        Unit = 3, "the units' lines";
+        Residual = 4, "the residual pool";
+        Share = 5, "the residual lines";
+        Whole = 6, "a region's part of a contract";
+        Half = 7, "a contract's halves";
+        Ace = 8, "a contract's lines by ACE";
+        Asoe = 9, "a contract's lines by ASOE";
+    }
+}
+
+impl Stage {
+    /// Whether contracts have it, each for every region that benefits.
+    pub const fn is_of_a_contract(self) -> bool {
+        matches!(self, Stage::Whole | Stage::Half | Stage::Ace | Stage::Asoe)
+    }
+}
+
 impl Service {
     /// Whether it raises the frequency; else it lowers it.
     pub const fn is_raise(self) -> bool {
@@ -157,7 +180,7 @@ impl fmt::Debug for Regions {
 
 #[cfg(test)]
 mod tests {
-    use super::{Mode, Part, PaymentType, Region, Regions, Service};
+    use super::{Mode, Part, PaymentType, Region, Regions, Service, Stage};
 
     #[test]
     fn odd_services_raise_and_the_last_two_are_regulation() {
@@ -186,6 +209,13 @@ mod tests {
     fn payment_types_are_the_numbers_0_to_2() {
         let numbers = PaymentType::ALL.iter().map(|&kind| u64::from(kind));
         assert!(numbers.eq(0..=2));
+    }
+
+    #[test]
+    fn the_last_four_stages_are_a_contract_s() {
+        for &stage in Stage::ALL {
+            assert_eq!(stage.is_of_a_contract(), stage.number() >= 6, "{stage}");
+        }
     }
 
     /// Every mask of five bits is the set of its regions, and no other is one.

@@ -15,6 +15,8 @@
 //! - [`statement()`] gives an account's statement, [`length`] how many bytes it has,
 //!   [`accounts`] the accounts there are.
 //! - [`balance`] gives the balance of a pool, [`pools`] the pools there are.
+//! - [`cutoffs`] gives what rounding cut off in each stage of a pool, [`cutoff`] one of
+//!   them: why a balance is not nil.
 //! - [`Statement::read`] reads a statement: its heading, and its lines one by one.
 //! - [`payment`] gives a service's payment, [`base_cost`] a constraint's base cost, from
 //!   dispatch rows.
@@ -45,6 +47,7 @@ mod book;
 ))]
 mod bridge;
 mod calls;
+mod cutoff;
 mod dispatch;
 mod kinds;
 mod nmas;
@@ -56,8 +59,9 @@ pub use book::{
     accounts, balance, check, length, pools, statement, statement_into, Balance, Pool, PoolKind,
     Source, LARGEST_BOOK,
 };
+pub use cutoff::{cutoff, cutoffs, Cutoff};
 pub use dispatch::{base_cost, payment, DISPATCH_ROW_SIZE};
-pub use kinds::{Mode, Part, PaymentType, Region, Regions, Service};
+pub use kinds::{Mode, Part, PaymentType, Region, Regions, Service, Stage};
 pub use nmas::{nmas, nmas_into, nmas_row, nmas_rows, NmasRow, LARGEST_NMAS, MOST_NMAS_ROWS};
 pub use refusal::{Reason, Refusal};
 pub use statement::{

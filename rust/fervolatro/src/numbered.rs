@@ -48,7 +48,7 @@ pub(crate) use numbered;
 
 #[cfg(test)]
 mod tests {
-    use crate::{Mode, Part, PaymentType, Reason, Region, Service};
+    use crate::{Mode, Part, PaymentType, Reason, Region, Service, Stage};
     use crate::{
         DISPATCH_ROW_SIZE, LARGEST_BOOK, LARGEST_NMAS, LARGEST_STATEMENT, LINE_NUMBERS_SIZE,
         MOST_LINES, MOST_NMAS_ROWS,
@@ -103,6 +103,7 @@ mod tests {
         assert_numbers!(Region, "FERVOLATRO_REGION_", "BIT_");
         assert_numbers!(Mode, "FERVOLATRO_MODE_", "");
         assert_numbers!(PaymentType, "FERVOLATRO_PAYMENT_TYPE_", "");
+        assert_numbers!(Stage, "FERVOLATRO_STAGE_", "");
     }
 
     #[test]

@@ -8,11 +8,12 @@ use crate::numbered::numbered;
 numbered! {
     /// The reasons for a refusal, as the rules number them: 1 to 10, 17 and 18 come from
     /// every call on a book, 11 and 12 from asking for a statement, for its length or for a
-    /// reconciliation file, 13 from writing either, 15 from asking for a balance or, with a
-    /// payment type past 2, for a file; 13 to 15 from a call on a statement; 16 from a call
-    /// on dispatch rows; 19 and 15 from reading a file. The first that applies is given: 17
-    /// and 18 are looked for after 9 and before 10, the others in the order of their
-    /// numbers, but 14 before 13, a payment type's 15 before all else and a row's behind 19.
+    /// reconciliation file, 13 from writing either, 15 from asking for a balance, for what
+    /// it cut off or, with a payment type past 2, for a file; 13 to 15 from a call on a
+    /// statement; 16 from a call on dispatch rows; 19 and 15 from reading a file. The first
+    /// that applies is given: 17 and 18 are looked for after 9 and before 10, the others in
+    /// the order of their numbers, but 14 before 13, a payment type's 15 before all else and
+    /// a row's behind 19.
     Reason {
         Short = 1, "book shorter than 84 bytes";
         Mark = 2, "mark, version or a reserved header byte wrong";

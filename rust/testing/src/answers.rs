@@ -37,6 +37,19 @@ pub struct Entry {
     pub amount: i64,
 }
 
+/// What the roundings of one stage of a pool cut off, together.
+#[derive(Clone, Copy, Debug, Default, PartialEq, Eq)]
+pub struct Cutoff {
+    /// 1 line, 2 pool, 3 unit, 4 residual, 5 share; of a contract 6 whole, 7 half, 8 ace,
+    /// 9 asoe.
+    pub stage: u8,
+    /// From 0 for NSW1 to 4 for VIC1 in the stages of a contract, else 0.
+    pub region: u8,
+    pub divisor: u64,
+    /// Exact less rounded, in parts of the divisor.
+    pub cut: i64,
+}
+
 /// What one line of the reconciliation file says. Each number has room beyond its range,
 /// so that one can be written down that is out of it.
 #[derive(Clone, Copy, Debug, Default, PartialEq, Eq)]

@@ -23,7 +23,7 @@ pub mod reference;
 pub mod requests;
 pub mod statement;
 
-pub use answers::{Balance, Entry, Heading, NmasRow, Refusal};
+pub use answers::{Balance, Cutoff, Entry, Heading, NmasRow, Refusal};
 pub use books::Books;
 
 /// A file or a folder of the repository, by its path from the root.

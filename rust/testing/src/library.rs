@@ -3,7 +3,7 @@
 use fervolatro::PoolKind;
 
 use crate::reference::Kind;
-use crate::{Balance, Books, Entry, Heading, NmasRow, Refusal};
+use crate::{Balance, Books, Cutoff, Entry, Heading, NmasRow, Refusal};
 
 pub fn check<'b>(books: impl Into<Books<'b>>) -> Result<(), Refusal> {
     let (book, locked) = lent(books);
@@ -32,6 +32,18 @@ pub fn whole_statement<'b>(books: impl Into<Books<'b>>, account: u32) -> Result<
 pub fn balance<'b>(books: impl Into<Books<'b>>, pool: u64) -> Result<Balance, Refusal> {
     let (book, locked) = lent(books);
     fervolatro::balance(book, locked, pool).map_err(plain)
+}
+
+pub fn cutoff<'b>(books: impl Into<Books<'b>>, pool: u64, index: u64) -> Result<Cutoff, Refusal> {
+    let (book, locked) = lent(books);
+    let cutoff = fervolatro::cutoff(book, locked, pool, index);
+    cutoff.map(cutoff_numbers).map_err(plain)
+}
+
+pub fn all_cutoffs<'b>(books: impl Into<Books<'b>>, pool: u64) -> Result<Vec<Cutoff>, Refusal> {
+    let (book, locked) = lent(books);
+    let cutoffs = fervolatro::cutoffs(book, locked, pool).map_err(plain)?;
+    Ok(cutoffs.into_iter().map(cutoff_numbers).collect())
 }
 
 pub fn accounts<'b>(books: impl Into<Books<'b>>) -> Result<Vec<u32>, Refusal> {
@@ -133,6 +145,15 @@ fn plain(refusal: fervolatro::Refusal) -> Refusal {
     Refusal {
         number: refusal.number(),
         place: refusal.place,
+    }
+}
+
+fn cutoff_numbers(of: fervolatro::Cutoff) -> Cutoff {
+    Cutoff {
+        stage: of.stage.number(),
+        region: of.region.map_or(0, fervolatro::Region::number),
+        divisor: of.divisor,
+        cut: of.cut,
     }
 }
 

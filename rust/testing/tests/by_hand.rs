@@ -2,7 +2,8 @@
 //!
 //! No code of this package packs this book: its bytes stand in `books/by_hand.txt`, one
 //! field a line, and every expected number has its sum beside it. So it shows that the
-//! page is enough to make a book and to know its statements and balances beforehand.
+//! page is enough to make a book and to know its statements, its balances and what their
+//! roundings cut off beforehand.
 //!
 //! Its contract is a test payment and wants a locked book: it is lent as its own, so that
 //! the payment is shared by the energies that stand there.
@@ -28,8 +29,8 @@
 use std::fs;
 
 use fervolatro::{
-    Balance, Heading, Line, Mode, Part, PoolKind, Reason, Refusal, Region, Regions, Service,
-    Source, Statement,
+    Balance, Cutoff, Heading, Line, Mode, Part, PoolKind, Reason, Refusal, Region, Regions,
+    Service, Source, Stage, Statement,
 };
 use fervolatro_testing::in_repository;
 
@@ -124,6 +125,60 @@ const POOLS: [(i64, u64, i64); 5] = [
     // 763,975 + 0 + 123,526 = 887,501; 18,775 + 0 + 868,725 = 887,500;
     // 375,445 + 1,237,056 = 1,612,501; 1,583,101 + 29,400 = 1,612,501.
     (5_000_003, 12, -5_000_003),
+];
+
+/// A stage and its region, the divisor, and what was cut off.
+type Cut = (Stage, Option<Region>, u64, i64);
+
+/// What is over after a division is cut off where it was rounded down; where it was rounded
+/// up, the divisor is missing of it. Below 0 it is the other way round.
+const CUT_OFF: [&[Cut]; 5] = [
+    // All three were rounded down: 2,804 x 10, 7,123 x 3 and 22,501 over. Together that is
+    // the whole total.
+    &[(Stage::Line, None, 71_910, 71_910)],
+    &[
+        // 92 over, and up: 92 - 120.
+        (Stage::Pool, None, 120, -28),
+        // Units 801, 802, 65,540 and 65,541: 500,000 + 184,206 - 184,206 - 113,966.
+        (Stage::Unit, None, 1_000_000, 386_034),
+        (Stage::Residual, None, 1_000_000, -386_034),
+        // All three were rounded up in size, and 29,888, 30,928 and 37,136 were over: 19,088 +
+        // 18,048 + 11,840.
+        (Stage::Share, None, 48_976, 48_976),
+    ],
+    &[
+        // 8,737,653.9025, and up.
+        (Stage::Pool, None, 1_000_000, -97_500),
+        // Units 801 and 65,541: 500,000 - 95,502.
+        (Stage::Unit, None, 1_000_000, 404_498),
+        (Stage::Residual, None, 1_000_000, -404_498),
+        // 48,976 - 31,402 = 17,574, and 8,495 + 9,079 is as much.
+        (Stage::Share, None, 48_976, 0),
+    ],
+    &[
+        // Minus what used cut off.
+        (Stage::Pool, None, 1_000_000, 97_500),
+        // Units 801, 802, 65,540 and 65,541: 30,865 - 30,560 + 249,695 + 437,410.
+        (Stage::Unit, None, 1_000_000, 687_410),
+        // -6,752,638.68741, and up in size: with the units' that makes the 1 left over.
+        (Stage::Residual, None, 1_000_000, 312_590),
+        // 48,976 - 35,010 = 13,966, and 12,163 + 1,803 is as much.
+        (Stage::Share, None, 48_976, 0),
+    ],
+    &[
+        // 1,775,001.065, an odd number. By ACE 15,325 over, and 21,152 over and up: 15,325 is
+        // missing. By ASOE 525 x 100 over, and 704 x 100 over and up: 52,500 is missing.
+        (Stage::Whole, Some(Region::Qld1), 1_000_000, 65_000),
+        (Stage::Half, Some(Region::Qld1), 2, -1),
+        (Stage::Ace, Some(Region::Qld1), 36_477, 0),
+        (Stage::Asoe, Some(Region::Qld1), 122_900, 0),
+        // 3,225,001.935, and up. By ACE 25,998 over and up: 9,435 is missing, and 9,435 over.
+        // By ASOE 2,800 x 10 over and up: 21,910 is missing, and 2,191 x 10 over.
+        (Stage::Whole, Some(Region::Sa1), 1_000_000, -65_000),
+        (Stage::Half, Some(Region::Sa1), 2, 0),
+        (Stage::Ace, Some(Region::Sa1), 35_433, 0),
+        (Stage::Asoe, Some(Region::Sa1), 49_910, 0),
+    ],
 ];
 
 /// Two hex digits as a byte. A lone digit is a slip of the pen, not a small byte.
@@ -246,6 +301,20 @@ fn every_pool_has_its_balance_and_no_more_pools_are_there() {
     };
     let given = fervolatro::balance(&book(), Some(&book()), 5);
     assert_eq!(given, Err(past));
+}
+
+#[test]
+fn every_stage_cuts_off_what_is_over() {
+    for (pool, stages) in (0..).zip(CUT_OFF) {
+        let by_hand = stages.iter().map(|&(stage, region, divisor, cut)| Cutoff {
+            stage,
+            region,
+            divisor,
+            cut,
+        });
+        let given = fervolatro::cutoffs(&book(), Some(&book()), pool);
+        assert_eq!(given, Ok(by_hand.collect()), "pool {pool}");
+    }
 }
 
 /// Accounts 12 and 305 and 70,001 have energy; the unit rows name 12 and 70,001.

@@ -100,6 +100,8 @@ fn assert_refused<'b>(books: impl Into<Books<'b>>, number: u8, place: usize) {
         },
         Call::Balance { pool: 0 },
         Call::Balance { pool: 99 },
+        Call::Cutoff { pool: 0, index: 0 },
+        Call::AllCutoffs { pool: 99 },
         Call::Accounts,
         Call::Pools,
     ] {

@@ -1,11 +1,11 @@
-//! What the package for users adds to the library's calls: lists of accounts and pools,
-//! statements of just the length asked for, lines one by one, services by their names,
-//! reconciliation files without a buffer and their rows by names.
+//! What the package for users adds to the library's calls: lists of accounts, of pools and
+//! of what their stages cut off, statements of just the length asked for, lines one by one,
+//! services by their names, reconciliation files without a buffer and their rows by names.
 //! The expected values are worked out by hand; `by_hand.rs` has those of the other book.
 
 use fervolatro::{
-    Mode, NmasRow, Part, PaymentType, Pool, PoolKind, Reason, Refusal, Region, Regions, Service,
-    Source, Statement,
+    Cutoff, Mode, NmasRow, Part, PaymentType, Pool, PoolKind, Reason, Refusal, Region, Regions,
+    Service, Source, Stage, Statement,
 };
 use fervolatro_testing::book::Book;
 use fervolatro_testing::dispatch::{encode, Row};
@@ -94,6 +94,61 @@ fn pools_of_every_kind() {
     assert_eq!(past, refused(Reason::PastEnd, 0));
 }
 
+/// A stage of a contract in a region.
+fn in_region(stage: Stage, region: Region, divisor: u64, cut: i64) -> Cutoff {
+    Cutoff {
+        stage,
+        region: Some(region),
+        divisor,
+        cut,
+    }
+}
+
+/// Contract 2's payment of 3 is half NSW1's and half QLD1's, 1.5, so 2 each: half a unit of
+/// money is missing. 1 is consumed and 1 sent out, and of each accounts 7 and 9 have one
+/// half, so 1: -1 of 2 twice.
+#[test]
+fn stages_of_a_contract_have_their_region() {
+    let book = small_halves_book().encode();
+    let of_region = |region| {
+        [
+            in_region(Stage::Whole, region, 1_000_000, -500_000),
+            in_region(Stage::Half, region, 2, 0),
+            in_region(Stage::Ace, region, 2, -2),
+            in_region(Stage::Asoe, region, 2, -2),
+        ]
+    };
+    let by_hand = [Region::Nsw1, Region::Qld1].map(of_region).concat();
+    assert_eq!(fervolatro::cutoffs(&book, None, 7), Ok(by_hand.clone()));
+    for (index, of) in (0..).zip(by_hand) {
+        assert_eq!(fervolatro::cutoff(&book, None, 7, index), Ok(of));
+    }
+    let past = fervolatro::cutoff(&book, None, 7, 8);
+    assert_eq!(past, refused(Reason::PastEnd, 0));
+}
+
+/// Constraint 1 has its lines alone. The pool of constraint 3 is its cost; those of
+/// constraint 4 are made. No stage of a constraint has a region.
+#[test]
+fn stages_of_constraints() {
+    use Stage::{Line, Pool, Residual, Share, Unit};
+
+    let book = small_halves_book().encode();
+    for (pool, by_hand) in [
+        (0, &[Line][..]),
+        (2, &[Unit, Residual, Share]),
+        (3, &[Pool, Unit, Residual, Share]),
+        (5, &[Pool, Unit, Residual, Share]),
+    ] {
+        let cutoffs = fervolatro::cutoffs(&book, None, pool).expect("it is a pool");
+        assert!(cutoffs.iter().all(|of| of.region.is_none()), "{cutoffs:?}");
+        let stages: Vec<Stage> = cutoffs.iter().map(|of| of.stage).collect();
+        assert_eq!(stages, by_hand, "pool {pool}");
+    }
+    let past = fervolatro::cutoffs(&book, None, 8);
+    assert_eq!(past, refused(Reason::PastEnd, 0));
+}
+
 /// The book is checked before anything is listed: a unit row of no constraint is 7, at
 /// 84 + 40 + 5 x 20 = 224.
 #[test]
@@ -107,6 +162,10 @@ fn refused_books_have_no_lists() {
     );
     assert_eq!(
         fervolatro::pools(&book, None),
+        refused(Reason::NoConstraint, 224)
+    );
+    assert_eq!(
+        fervolatro::cutoffs(&book, None, 0),
         refused(Reason::NoConstraint, 224)
     );
     let statement = fervolatro::statement(&book, None, 7);
@@ -162,6 +221,8 @@ fn an_empty_locked_book_is_none() {
         assert_eq!(length, refused(Reason::NoLocked, 272));
         let balance = fervolatro::balance(&book, locked, 0);
         assert_eq!(balance, refused(Reason::NoLocked, 272));
+        let cutoffs = fervolatro::cutoffs(&book, locked, 0);
+        assert_eq!(cutoffs, refused(Reason::NoLocked, 272));
         let accounts = fervolatro::accounts(&book, locked);
         assert_eq!(accounts, refused(Reason::NoLocked, 272));
         let pools = fervolatro::pools(&book, locked);

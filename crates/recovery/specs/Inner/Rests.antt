@@ -4,6 +4,7 @@ use mathlib.Core.Path.{_≡_}
 use mathlib.Core.Bool.{cond}
 use mathlib.Core.List.{List}
 use lib.Dec.{eqb}
+use lib.IntN.{ℤ, natAbs}
 use lib.ListN.{length, getD}
 use Rattle.numbers.specs.Round.{roundN}
 use Rattle.ground.specs.Units.{million, moneyLimit, totalLimit}
@@ -17,7 +18,7 @@ use Rattle.totals.specs.Inner.Energies.{Energies}
 use Rattle.totals.specs.Inner.Facts.{Funded}
 use Rattle.amounts.specs.Pools.{halvesOf}
 use Rattle.recovery.specs.Recovers.{benefiting}
-use Rattle.recovery.specs.Inner.Shapes.{sharedSum, regionPaid}
+use Rattle.recovery.specs.Inner.Shapes.{sharedSum, sharedCut, regionPaid}
 use Rattle.recovery.specs.declared.contracts.Paid.{Paid}
 
 -- a contract whose payment can be shared by these energies: each region that it benefits has both
@@ -30,6 +31,11 @@ pub record PaidBy (entry : ℕ → Entry) (k : Contract) : Type 0 where
 pub record PartIs (E : Energies) (r : Constraint) (amount x : ℕ) : Type 0 where
   pub sum : x ≡ sharedSum E r amount
   pub small : x ≤ 51_200_000_000_000
+
+-- and what was cut off its shares
+pub record CutIs (E : Energies) (r : Constraint) (amount : ℕ) (x : ℤ) : Type 0 where
+  pub cut : x ≡ sharedCut E r amount
+  pub small : natAbs x ≤ 51_200_000_000
 
 -- how many regions a contract benefits, and what all accounts pay in them
 pub record PaidIs (E : Energies) (k : Contract) (x : Paid) : Type 0 where

@@ -3,6 +3,7 @@
 use Prim.Native.Nat.{ℕ, _+_, _*_, _^_}
 use mathlib.Core.Bool.{cond}
 use lib.Dec.{eqb}
+use lib.IntN.{ℤ}
 use Rattle.numbers.specs.Round.{roundN}
 use Rattle.ground.specs.Units.{million}
 use Rattle.market.specs.Kinds.{basisOf}
@@ -16,7 +17,7 @@ use Rattle.factors.specs.Factors.{sumOver}
 use Rattle.totals.specs.Divisors.{overRegions}
 use Rattle.totals.specs.Inner.Energies.{Energies}
 use Rattle.amounts.specs.Pools.{poolsOf, residualPools, halvesOf}
-use Rattle.sharing.specs.Inner.Shares.{partSum}
+use Rattle.sharing.specs.Inner.Shares.{partSum, partCut}
 use Rattle.sharing.specs.declared.shares.Part.{Part}
 use Rattle.recovery.specs.Recovers.{recovers}
 use Rattle.recovery.specs.ByKind.{aboveBy, belowBy, poolBy, creditBy, chargeBy}
@@ -46,6 +47,16 @@ unitCredit unit m id kind pool = sumOver unit m id (λ q. roundN (pool * aboveBy
 unfoldable pub unitCharge : (ℕ → UnitRow) → ℕ → ℕ → Kind → ℕ → ℕ
 unitCharge unit m id kind pool = sumOver unit m id (λ q. roundN (pool * belowBy kind q) million)
 
+-- what their lines cut off: what lies above 0 less what lies below, of a row its exact share with the rounded one of the other side, in millionths
+unfoldable pub cutAbove : ℕ → ℕ → ℕ → ℕ
+cutAbove pool above below = pool * above + roundN (pool * below) million * million
+
+unfoldable pub unitCutAbove : (ℕ → UnitRow) → ℕ → ℕ → Kind → ℕ → ℕ
+unitCutAbove unit m id kind pool = sumOver unit m id (λ q. cutAbove pool (aboveBy kind q) (belowBy kind q))
+
+unfoldable pub unitCutBelow : (ℕ → UnitRow) → ℕ → ℕ → Kind → ℕ → ℕ
+unitCutBelow unit m id kind pool = sumOver unit m id (λ q. cutAbove pool (belowBy kind q) (aboveBy kind q))
+
 -- ---- shared by energy
 
 -- an amount shared over a constraint's regions
@@ -70,3 +81,7 @@ regionPaid E k g =
 -- what an amount that is shared over a constraint's regions comes to over all accounts
 abbrev pub sharedSum : Energies → Constraint → ℕ → ℕ
 sharedSum E r amount = partSum (partOf (E .entry) r amount) (E .row) (E .rows)
+
+-- and what was cut off these shares
+abbrev pub sharedCut : Energies → Constraint → ℕ → ℤ
+sharedCut E r amount = partCut (partOf (E .entry) r amount) (E .row) (E .rows)

@@ -4,7 +4,8 @@ use mathlib.Core.Path.{_≡_}
 use mathlib.Core.List.{[]}
 use mathlib.Core.Bool.{cond}
 use lib.Dec.{eqb}
-use Rattle.numbers.specs.Round.{roundN}
+use lib.IntN.{ℤ}
+use Rattle.numbers.specs.Round.{roundN, cutN}
 use Rattle.ground.specs.Units.{moneyLimit, totalLimit}
 use Rattle.sections.specs.Total.{total}
 use Rattle.sections.specs.Inner.Order.{PairsRise}
@@ -12,7 +13,7 @@ use Rattle.market.specs.Kinds.{bitSet}
 use Rattle.rules.specs.Inner.Facts.{EnergyRule}
 use Rattle.records.specs.declared.rows.EnergyRow.{EnergyRow}
 use Rattle.totals.specs.Sums.{rowBy}
-use Rattle.accounts.specs.Rows.{sumOf}
+use Rattle.accounts.specs.Rows.{sumOf, sumZ}
 use Rattle.sharing.specs.Once.{named}
 use Rattle.sharing.specs.declared.shares.Part.{Part}
 use Rattle.sharing.specs.Accounts.{energyAccount}
@@ -32,6 +33,13 @@ shareIn p energy n account = roundN (p .amount * ownInPart p energy n account) (
 -- the shares of those accounts that energy rows name
 unfoldable pub partSum : Part → (ℕ → EnergyRow) → ℕ → ℕ
 partSum p energy n = sumOf (shareIn p energy n) (named (energyAccount energy) n [])
+
+-- what an account's share cuts off, over the whole, and those of all these accounts
+unfoldable pub cutIn : Part → (ℕ → EnergyRow) → ℕ → ℕ → ℤ
+cutIn p energy n account = cutN (p .amount * ownInPart p energy n account) (p .whole)
+
+unfoldable pub partCut : Part → (ℕ → EnergyRow) → ℕ → ℤ
+partCut p energy n = sumZ (cutIn p energy n) (named (energyAccount energy) n [])
 
 -- of the energy rows
 pub record Sorted (energy : ℕ → EnergyRow) (n : ℕ) : Type 0 where

@@ -2,6 +2,7 @@
 //! and with accounts that are chosen against the count of both books' accounts.
 
 use super::books::{self, Asked, Pairs};
+use super::cutoff;
 use super::timing::{alone, Times};
 use super::{average, balance, check, chosen_beside, fullest, just_room, length, statement};
 use fervolatro_testing::reference::Kind;
@@ -26,6 +27,9 @@ pub fn print(pairs: &Pairs, by_themselves: &[&Asked; 3]) {
         let pool = fullest(pair, Kind::Contract).expect("it has contracts");
         println!("{}", balance(pair, pool).row("balance, Contract", pair));
         println!("{}", average(pair).row("balance, average", pair));
+    }
+    for pair in asked() {
+        cutoff::print_of_a_contract(pair);
     }
     more_than_alone(pairs, by_themselves);
     println!("\nbalance, accounts of two books chosen against the count");

@@ -9,6 +9,7 @@
 //! the machine does can only add to it.
 
 mod books;
+mod cutoff;
 mod dispatch;
 mod locked;
 mod nmas;
@@ -58,6 +59,9 @@ fn main() {
     }
     for asked in &books {
         balances(asked);
+    }
+    for asked in &books {
+        cutoff::print(asked);
     }
     costs();
     length_of_check(&books);

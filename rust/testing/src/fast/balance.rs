@@ -124,14 +124,14 @@ impl<const SLOTS: usize> Accounts<SLOTS> {
 }
 
 /// A pool, and which of its constraint's it is: 0 FPP, 1 used, 2 unused.
-enum Pool<'b> {
+pub(super) enum Pool<'b> {
     Contingency(&'b [u8; 40]),
     Regulation(&'b [u8; 40], usize),
     Contract(&'b [u8; 36]),
 }
 
 impl<'b> Pool<'b> {
-    fn numbered(sections: &Sections<'b>, number: u64) -> Option<Self> {
+    pub fn numbered(sections: &Sections<'b>, number: u64) -> Option<Self> {
         let mut left = number;
         for record in sections.constraints {
             let (pools, first) = match record[6] {
@@ -149,7 +149,7 @@ impl<'b> Pool<'b> {
     }
 
     /// The book by whose energy the pool is shared, and the other that is read, if one is.
-    fn shared_by(&self, read: &Read<'b>) -> (Sections<'b>, Option<Sections<'b>>) {
+    pub fn shared_by(&self, read: &Read<'b>) -> (Sections<'b>, Option<Sections<'b>>) {
         match (self, read.locked) {
             (Pool::Contract(record), Some(locked)) if record[4] == TEST => {
                 (locked, Some(read.current))
@@ -160,7 +160,7 @@ impl<'b> Pool<'b> {
 }
 
 /// The total of a kind over the regions of a mask.
-fn total_over(totals: &Totals, regions: u8, kind: usize) -> u64 {
+pub(super) fn total_over(totals: &Totals, regions: u8, kind: usize) -> u64 {
     let set = (0..5).filter(|region| regions >> region & 1 == 1);
     set.map(|region| u64::from(totals[region][kind])).sum()
 }

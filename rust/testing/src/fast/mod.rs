@@ -2,11 +2,12 @@
 //! against. Nothing is allocated, and no unit row or energy row is passed more than
 //! twice, once to check it and once to settle it; nor is any of the locked book's.
 //!
-//! It is no second reference: `tests/fast.rs`, `tests/dispatch.rs` and `tests/nmas.rs`
-//! compare it with that one.
+//! It is no second reference: `tests/fast.rs`, `tests/dispatch.rs`, `tests/nmas.rs` and
+//! `tests/cutoff.rs` compare it with that one.
 
 mod balance;
 mod check;
+mod cutoff;
 mod dispatch;
 mod layout;
 mod lines;
@@ -16,6 +17,7 @@ mod statement;
 
 pub use balance::balance;
 pub use check::check;
+pub use cutoff::cutoff;
 pub use dispatch::{base_cost, payment};
 pub use lines::{lines, Fields};
 pub use nmas::{nmas, nmas_row, nmas_rows};

@@ -2,11 +2,11 @@
 
 use crate::fast::{self, Fields};
 use crate::reference::Kind;
-use crate::{library, reference, Balance, Books, Entry, Heading, NmasRow, Refusal};
+use crate::{library, reference, Balance, Books, Cutoff, Entry, Heading, NmasRow, Refusal};
 
-/// A call, with what it takes beside the bytes: an account, a pool, the index of a line or
-/// a row, a constraint's id and a service, whose file it is, and how many bytes the buffer
-/// has.
+/// A call, with what it takes beside the bytes: an account, a pool, the index of a stage, a
+/// line or a row, a constraint's id and a service, whose file it is, and how many bytes the
+/// buffer has.
 #[derive(Clone, Copy, Debug)]
 pub enum Call {
     Check,
@@ -14,6 +14,8 @@ pub enum Call {
     Statement { account: u32, room: usize },
     WholeStatement { account: u32 },
     Balance { pool: u64 },
+    Cutoff { pool: u64, index: u64 },
+    AllCutoffs { pool: u64 },
     Accounts,
     Pools,
     Header,
@@ -65,6 +67,8 @@ impl Call {
             Call::Statement { .. } => "statement",
             Call::WholeStatement { .. } => "whole statement",
             Call::Balance { .. } => "balance",
+            Call::Cutoff { .. } => "cut-off",
+            Call::AllCutoffs { .. } => "all cut-offs",
             Call::Accounts => "accounts",
             Call::Pools => "pools",
             Call::Header => "header",
@@ -90,6 +94,8 @@ pub enum Answer {
     Length(usize),
     Bytes(Vec<u8>),
     Balance(Balance),
+    Cutoff(Cutoff),
+    Cutoffs(Vec<Cutoff>),
     Accounts(Vec<u32>),
     /// By their numbers: the id of the constraint or contract, and what the pool is.
     Pools(Vec<(u32, Kind)>),
@@ -127,6 +133,8 @@ macro_rules! side {
                     $of::whole_statement(books, account).map(Answer::Bytes)
                 }
                 Call::Balance { pool } => $of::balance(books, pool).map(Answer::Balance),
+                Call::Cutoff { pool, index } => $of::cutoff(books, pool, index).map(Answer::Cutoff),
+                Call::AllCutoffs { pool } => $of::all_cutoffs(books, pool).map(Answer::Cutoffs),
                 Call::Accounts => $of::accounts(books).map(Answer::Accounts),
                 Call::Pools => $of::pools_by_number(books).map(Answer::Pools),
                 Call::Header => $of::header(books.book).map(Answer::Heading),
@@ -166,6 +174,7 @@ pub const FAST: Side = Side {
             fast::statement(books, account, buffer).map(Answer::Length)
         }
         Call::Balance { pool } => fast::balance(books, pool).map(Answer::Balance),
+        Call::Cutoff { pool, index } => fast::cutoff(books, pool, index).map(Answer::Cutoff),
         Call::Unpack { .. } => fast_unpack(books.book, buffer).map(Answer::Length),
         Call::Payment { service } => fast::payment(books.book, service).map(Answer::Amount),
         Call::BaseCost { id, service } => {

@@ -4,7 +4,7 @@
 use crate::book::{Constraint, Contract, EnergyRow, RegionEntry, UnitRow};
 
 /// Factors and usage are in millionths: this is one whole.
-const WHOLE: i128 = 1_000_000;
+pub const WHOLE: i128 = 1_000_000;
 
 /// "Rounding takes a quotient to the nearest whole number, halves away from
 /// zero": in size the whole part of the quotient plus one half, then the sign.
@@ -102,7 +102,7 @@ impl Settled {
     }
 
     /// "FPP by CF, used by min(0, CF), unused by DCF."
-    fn factor(self, cf: i32, dcf: i32) -> i128 {
+    pub fn factor(self, cf: i32, dcf: i32) -> i128 {
         match self {
             Settled::Fpp => cf.into(),
             Settled::Used => cf.min(0).into(),
@@ -116,7 +116,7 @@ impl Settled {
     }
 
     /// "Residual pools are made the same way, from RCF, min(0, RCF), DRCF."
-    fn residual_pool(self, constraint: &Constraint) -> i128 {
+    pub fn residual_pool(self, constraint: &Constraint) -> i128 {
         let factor = self.factor(constraint.rcf, constraint.drcf);
         round(self.pool(constraint) * factor, WHOLE)
     }
@@ -130,8 +130,8 @@ impl Settled {
 
 /// What a contract settles in one region, by ACE and by ASOE.
 pub struct Halves {
-    consumed: i128,
-    sent_out: i128,
+    pub consumed: i128,
+    pub sent_out: i128,
 }
 
 impl Halves {

@@ -47,7 +47,7 @@ impl Balances {
 
 /// "All accounts (each that 11 lets pass)": those that a unit row or an energy row
 /// names, each once. "Balances are over the accounts of both books."
-fn accounts_of(read: &Read) -> BTreeSet<u32> {
+pub(super) fn accounts_of(read: &Read) -> BTreeSet<u32> {
     let accounts = read.each().flat_map(|book| {
         let units = book.units.iter().map(|row| row.account);
         let energies = book.energies.iter().map(|row| row.account);

@@ -6,6 +6,7 @@
 mod amounts;
 mod balance;
 mod check;
+mod cutoff;
 mod dispatch;
 mod listing;
 mod locked;
@@ -16,6 +17,7 @@ mod statement;
 pub use amounts::round;
 pub use balance::{accounts, balance, balances, pools, pools_by_number, Balances, Kind, Pool};
 pub use check::check;
+pub use cutoff::{all_cutoffs, cutoff, cutoffs, Cutoffs};
 pub use dispatch::{base_cost, costs, payment, Costs};
 pub use listing::{listed, listing};
 pub use nmas::{nmas, nmas_row, nmas_row_of, nmas_rows, read_nmas, spelled, whole_nmas};

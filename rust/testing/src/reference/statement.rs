@@ -223,7 +223,7 @@ impl<'b> Settlement<'b> {
 
     /// The account's energies in the current book and those of all, over the regions of a
     /// mask.
-    fn over(&self, mask: u8) -> (Energy, Energy) {
+    pub(super) fn over(&self, mask: u8) -> (Energy, Energy) {
         let Energies { own, total } = &self.energies.current;
         let regions = || (0..5).filter(|region| mask >> region & 1 == 1);
         (

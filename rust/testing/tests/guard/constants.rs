@@ -26,9 +26,10 @@ const LINES: &str = "crates/lines/specs/Lines.antt";
 const SETTLE: &str = "crates/settlement/specs/Settle.antt";
 const LENT: &str = "crates/statement/specs/Lent.antt";
 const BALANCE: &str = "crates/balance/specs/Balance.antt";
+const CUTOFFS: &str = "crates/cutoffs/specs/Cutoffs.antt";
 const READING: &str = "crates/parsing/specs/Parsing.antt";
 const CALLS: &str = "crates/reading/specs/Calls.antt";
-const ANSWERS: &str = "crates/answers/specs/Answers.antt";
+pub const ANSWERS: &str = "crates/answers/specs/Answers.antt";
 const KINDS: &str = "crates/market/specs/Kinds.antt";
 const DISPATCH: &str = "crates/dispatch/specs/Dispatch.antt";
 const NMAS: &str = "crates/nmas_reading/specs/Reading.antt";
@@ -124,6 +125,14 @@ const PLACES: &[(&str, &str)] = &[
     (CALLS, "(line.Refused {REFUSED_PAST_END} 0) (line.Line"),
     (BALANCE, "balanced.Refused {REFUSED_PAST_END} 0"),
     (
+        CUTOFFS,
+        "stageAt [] index = cutoff.Refused {REFUSED_PAST_END} 0",
+    ),
+    (
+        CUTOFFS,
+        "cutFor B L past index = cutoff.Refused {REFUSED_PAST_END} 0",
+    ),
+    (
         DISPATCH,
         "atRecord {REFUSED_DISPATCH_ROW} 0 {DISPATCH_ROW_SIZE} (firstBad",
     ),
@@ -215,6 +224,7 @@ pub fn unlike_the_rules(repository: &Repository) -> Vec<String> {
     let numbers: Vec<(String, i64, &str)> = of_the_package
         .map(|(name, number)| (name.to_owned(), number, "the package"))
         .chain(payment_types(repository))
+        .chain(stages(repository))
         .collect();
     let mut complaints = Vec::new();
     for (file, text) in &places {
@@ -321,6 +331,17 @@ fn payment_types(repository: &Repository) -> impl Iterator<Item = (String, i64, 
     let words = words_of(repository, "paymentTypes").into_iter();
     let named = words.map(|word| format!("PAYMENT_TYPE_{word}"));
     named.zip(0..).map(|(name, number)| (name, number, WORDS))
+}
+
+/// The stages of rounding, each of which a definition numbers: `stageNumber Line = 1`.
+fn stages(repository: &Repository) -> impl Iterator<Item = (String, i64, &'static str)> + use<'_> {
+    let lines = repository.text(ANSWERS).lines();
+    lines.filter_map(|line| {
+        let (case, number) = line.strip_prefix("stageNumber ")?.split_once(" = ")?;
+        let name = case.trim_matches(['(', ')']).rsplit('.').next()?;
+        let name = format!("STAGE_{}", name.to_uppercase());
+        Some((name, number.trim().parse().ok()?, ANSWERS))
+    })
 }
 
 /// What this package has for a constant: the sizes of its records, and the ends of its

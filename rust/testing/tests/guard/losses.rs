@@ -679,7 +679,16 @@ fn an_edge_of_another_shape_is_noticed() {
             "bytes: &[u8], index: u32",
             "fervolatro_line",
         ),
-        ("number: u64", "number: u32", "fervolatro_balance"),
+        (
+            "    number: u64,\n) -> PoolAnswer",
+            "    number: u32,\n) -> PoolAnswer",
+            "fervolatro_balance",
+        ),
+        (
+            "    index: u64,\n) -> CutAnswer",
+            "    index: u32,\n) -> CutAnswer",
+            "fervolatro_cutoff",
+        ),
         (
             "fn fervolatro_rewrite",
             "fn fervolatro_write",
@@ -1081,6 +1090,11 @@ fn a_refusal_of_other_words_is_noticed() {
             "index is above the number of lines",
             "refusal 15",
         ),
+        (
+            "index is not below the number of stages",
+            "index is above the number of stages",
+            "refusal 15",
+        ),
         ("type is not below 3", "type is not below 4", "refusal 15"),
     ];
     for (old, new, about) in changes {
@@ -1169,6 +1183,20 @@ fn a_constant_of_another_number_is_noticed() {
         watch.notices(&name, |changed| {
             let [old, new] = [&constant.value, "77"].map(|value| format!("{name} {form}{value}"));
             replace(changed, edge::HEADER, &old, &new);
+        });
+    }
+}
+
+#[test]
+fn a_stage_of_another_number_is_noticed() {
+    let repository = Repository::read();
+    let watch = Watch::over(&repository, constants::unlike_the_rules);
+    for (old, new, about) in [
+        ("Half = 7", "Half = 8", "FERVOLATRO_STAGE_HALF"),
+        ("Line = 1", "Lines = 1", "FERVOLATRO_STAGE_LINE"),
+    ] {
+        watch.notices(about, |changed| {
+            replace(changed, constants::ANSWERS, old, new);
         });
     }
 }

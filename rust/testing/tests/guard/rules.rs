@@ -30,7 +30,7 @@ const ALL_FUNCTIONS: &str = "every public function";
 /// are changed by hand, where the rules change or a request lands.
 const WORDS: [(&str, usize, u64); 2] = [
     (RULES, 9_626, 10_010_506_665_584_404_658),
-    (REQUESTS, 2_897, 13_373_112_244_714_062_968),
+    (REQUESTS, 3_282, 263_505_127_120_763_239),
 ];
 
 /// Rows with a cell empty or with something in it that is not there.

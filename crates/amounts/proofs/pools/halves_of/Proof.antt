@@ -21,9 +21,8 @@ odd-up part = omega arith
 share-requires : tie.Need-share-requires
 share-requires c κs = search needs
 
-nearest-requires : tie.Need-nearest-requires
-nearest-requires c κs =
-    (omega arith, omega (arith, c .share .ensures, round-share (c .before .args .payment) (c .before .args .factor) 1_000_000 (c .before .pre .1)))
+half-of-requires : tie.Need-half-of-requires
+half-of-requires c κs = omega (arith, c .share .ensures, round-share (c .before .args .payment) (c .before .args .factor) 1_000_000 (c .before .pre .1))
 
 sub-t5 : tie.Need-sub-t5
 sub-t5 c = search needs
@@ -31,7 +30,7 @@ sub-t5 c = search needs
 returns : tie.Need-returns
 unfolding halvesOf
 returns c =
-    ap (halved (c .before .share .result)) (c .nearest .ensures ∙ odd-up (c .before .share .result)) ∙ ap halve (c .before .share .ensures)
+    ap (halved (c .before .share .result)) (c .half-of .ensures .whole ∙ odd-up (c .before .share .result)) ∙ ap halve (c .before .share .ensures)
 
 pub halves-of-spec : {M : Type 1} → statement M
-halves-of-spec = tie.close (tie.spec share-requires nearest-requires sub-t5 returns)
+halves-of-spec = tie.close (tie.spec share-requires half-of-requires sub-t5 returns)

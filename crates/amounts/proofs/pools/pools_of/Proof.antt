@@ -28,12 +28,12 @@ share-requires c κs = (c .before .before .before .before .pre .cost, (data-in _
 fpp-pool-requires : tie.Need-fpp-pool-requires
 fpp-pool-requires c κs = search needs
 
-sub-t8 : tie.Need-sub-t8
-sub-t8 c = omega (arith, c .before .before .share .ensures, round-share (c .before .before .before .before .before .before .before .args .r .cost) (c .before .before .before .before .mode .given .0 .1 .1 .0) 1_000_000 (data-in _ (c .before .before .before .before .before .before .before .pre) (c .before .before .before .before .before .before .of .ensures) (c .before .before .before .before .mode .given .1) .used))
+sub-t7 : tie.Need-sub-t7
+sub-t7 c = omega (arith, c .before .before .share .ensures, round-share (c .before .before .before .before .before .before .before .args .r .cost) (c .before .before .before .before .mode .given .0 .1 .1 .0) 1_000_000 (data-in _ (c .before .before .before .before .before .before .before .pre) (c .before .before .before .before .before .before .of .ensures) (c .before .before .before .before .mode .given .1) .used))
 
 returns-2 : tie.Need-returns-2
 unfolding poolsByMode
-returns-2 c = rw (sym (c .before .before .before .before .before .before .of .ensures), c .before .before .before .before .mode .given .1, c .before .before .share .ensures, c .before .fpp-pool .ensures)
+returns-2 c = rw (sym (c .before .before .before .before .before .before .of .ensures), c .before .before .before .before .mode .given .1, c .before .before .share .ensures, c .before .fpp-pool .ensures .whole)
 
 pub pools-of-spec : {M : Type 1} → statement M
 pools-of-spec =
@@ -45,5 +45,5 @@ pools-of-spec =
     cast-share
     share-requires
     fpp-pool-requires
-    sub-t8
+    sub-t7
     returns-2)

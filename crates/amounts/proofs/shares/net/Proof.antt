@@ -1,7 +1,7 @@
 -- `amounts::shares::net` meets its contract. The two signed numbers are added. Assumes nothing.
 use mathlib.Core.Path.{_≡_, ap₂, _∙_}
 use native.Mathlib.Omega.{arith}
-use lib.IntN.{pos, negℤ, natAbs, _+ℤ_}
+use lib.IntN.{pos, negℤ, _+ℤ_}
 use mir.Facts.{toZ-ofZ}
 use mir.Val.{toZ, ofZ}
 use mir.Syntax.{w64}

@@ -13,11 +13,15 @@ product-requires c κs = search needs
 
 nearest-requires : tie.Need-nearest-requires
 nearest-requires c κs =
-    (omega arith, omega (arith, c .product .ensures, wide-product (c .before .args .self .price) (c .before .args .self .enablement) (search needs) (search needs)))
+    record {
+      above = omega arith;
+      small = omega arith;
+      fits = omega (arith, c .product .ensures, wide-product (c .before .args .self .price) (c .before .args .self .enablement) (search needs) (search needs));
+    }
 
 returns : tie.Need-returns
 unfolding amountOf
-returns c = c .nearest .ensures ∙ ap (λ n. roundN n 12) (c .before .product .ensures)
+returns c = c .nearest .ensures .whole ∙ ap (λ n. roundN n 12) (c .before .product .ensures)
 
 pub amount-spec : {M : Type 1} → statement M
 amount-spec = tie.close (tie.spec product-requires nearest-requires returns)

@@ -54,10 +54,10 @@ owned-share-requires-2 : tie.Need-owned-share-requires-2
 owned-share-requires-2 c κs = let f = c .before .before .before .before .before .before .before .before .before .before .pre .asoe (c .before .before .before .before .before .before .before .if1 .left) in (f .small, (f .within, (f .above, f .below)))
 
 returns-2 : tie.Need-returns-2
-returns-2 c = row-both (c .before .before .before .before .before .before .before .before .before .before .before .pre) (c .before .before .before .before .before .before .before .before .if1 .left) (c .before .before .before .before .owned-share .ensures) (c .owned-share2 .ensures)
+returns-2 c = row-both (c .before .before .before .before .before .before .before .before .before .before .before .before .before .pre) (c .before .before .before .before .before .before .before .before .before .before .if1 .left) (c .before .before .before .before .before .before .owned-share .ensures .whole) (c .before .before .owned-share2 .ensures .whole)
 
 add-result : tie.Need-add-result
-add-result c = omega (arith, row-small (c .before .before .before .before .before .before .before .before .before .before .before .pre) (returns-2 c))
+add-result c = omega (arith, row-small (c .before .before .before .before .before .before .before .before .before .before .before .before .before .pre) (returns-2 c))
 
 pub row-pays-spec : {M : Type 1} → statement M
 row-pays-spec =

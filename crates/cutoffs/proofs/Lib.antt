@@ -1,0 +1,4 @@
+pub mod Stages
+pub mod Made
+pub mod Numbering
+pub mod Ends
