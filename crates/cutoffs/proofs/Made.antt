@@ -29,12 +29,11 @@ use Rattle.amounts.specs.declared.pools.Halves.{Halves}
 use Rattle.sharing.specs.Inner.Shares.{partCut, Shareable}
 use Rattle.recovery.specs.ByKind.{restAbove, restBelow}
 use Rattle.recovery.specs.Inner.Shapes.{recoveryOf, consumedPart, sentPart, sharedCut}
-use Rattle.recovery.specs.Inner.Units.{SumsAre}
+use Rattle.recovery.specs.Inner.Units.{CutsAre}
 use Rattle.recovery.specs.Inner.Rests.{CutIs}
 use Rattle.recovery.specs.declared.kinds.Kind.{Kind}
 use Rattle.recovery.specs.declared.kinds.Kind.the-variants as kind
 use Rattle.recovery.specs.declared.kinds.Recovery.{Recovery}
-use Rattle.recovery.specs.declared.units.UnitSums.{UnitSums}
 use Rattle.cutoffs.specs.Cutoffs.{residualStage, partOver, wholeStage, halfStage}
 use Rattle.cutoffs.specs.Inner.Shapes.{lineShape, unitShape, shareShape, aceShape, asoeShape}
 use Rattle.cutoffs.specs.declared.Stage.the-variants.{Line, Unit, Residual, Share, Whole, Half, Ace, Asoe}
@@ -75,11 +74,11 @@ unfolding lineShape
 line-is E r w c = rw (w, c)
 
 -- unit lines: the sums are over all unit rows
-pub unit-is : (B : Book) (r : Constraint) (k : Kind) {x : Recovery} {u : UnitSums} {cut : ℤ} → x ≡ recoveryOf r k
-    → SumsAre (B .unit) (B .header .units) (r .id) k (x .pool) (B .header .units) u → cut ≡ u .cut
+pub unit-is : (B : Book) (r : Constraint) (k : Kind) {x : Recovery} {cut : ℤ} → x ≡ recoveryOf r k
+    → CutsAre (B .unit) (B .header .units) (r .id) k (x .pool) (B .header .units) cut
     → record { stage = Unit; region = 0; divisor = 1_000_000; cut = cut } ≡ unitShape B r k
 unfolding unitShape recoveryOf
-unit-is B r k e s c = rw (c, s .cut, e)
+unit-is B r k e s = rw (s .cut, e)
 
 -- above and below are the residual's two factors, p and q its sides as rounded
 pub residual-is : (r : Constraint) (k : Kind) {x : Recovery} {above below : ℕ} {p q : Rounded} {cut : ℤ} → x ≡ recoveryOf r k → above ≡ restAbove k r

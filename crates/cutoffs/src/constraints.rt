@@ -83,12 +83,11 @@ fn unit(book: &[u8], h: Header, r: Constraint, kind: Kind) -> Cut
 {
     let x = kinds::recovery_of(r, kind);
     let from = h.units_at();
-    let u = units::unit_sums(&book[from..], h.units as usize, r.id, kind, x.pool);
     Cut {
         stage: Stage::Unit,
         region: 0,
         divisor: 1_000_000,
-        cut: u.cut,
+        cut: units::unit_cut(&book[from..], h.units as usize, r.id, kind, x.pool),
     }
 }
 

@@ -1,30 +1,21 @@
 -- The sums over a constraint's unit rows, row by row. Only contracts of inner functions speak of these.
-use Prim.Native.Nat.{ℕ, _+_, _*_, _≤_, _<_}
+use Prim.Native.Nat.{ℕ, _+_, _*_, _≤_}
 use mathlib.Core.Path.{_≡_}
-use lib.IntN.{natAbs, _+ℤ_}
+use lib.IntN.{ℤ, natAbs}
 use Rattle.numbers.specs.Sign.{less}
 use Rattle.numbers.specs.Round.{roundN}
 use Rattle.ground.specs.Units.{million, moneyLimit}
 use Rattle.records.specs.declared.rows.UnitRow.{UnitRow}
-use Rattle.amounts.specs.Shares.{cutByFactor}
 use Rattle.recovery.specs.ByKind.{aboveBy, belowBy}
 use Rattle.recovery.specs.Inner.Shapes.{unitRows, unitCredit, unitCharge, unitCutAbove, unitCutBelow}
 use Rattle.recovery.specs.declared.kinds.Kind.{Kind}
 use Rattle.recovery.specs.declared.units.UnitSums.{UnitSums}
-
--- one row more fits: a constraint has at most 600, each with a share of at most 50,000,000,000 and at most 1,000,000 cut off
-pub record RowRoom (t : UnitSums) : Type 0 where
-  pub rows : t .rows < 600
-  pub credit : t .credit ≤ 30_000_000_000_000
-  pub charge : t .charge ≤ 30_000_000_000_000
-  pub cut : natAbs (t .cut) ≤ 600_000_000
 
 -- row q of the constraint added to the sums t
 pub record RowAdded (t : UnitSums) (q : UnitRow) (kind : Kind) (pool : ℕ) (x : UnitSums) : Type 0 where
   pub rows : x .rows ≡ t .rows + 1
   pub credit : x .credit ≡ t .credit + roundN (pool * aboveBy kind q) million
   pub charge : x .charge ≡ t .charge + roundN (pool * belowBy kind q) million
-  pub cut : x .cut ≡ t .cut +ℤ cutByFactor pool (aboveBy kind q) (belowBy kind q)
 
 -- the sums over the first u of the rows, and how large they can be
 pub record SumsAre (unit : ℕ → UnitRow) (m id : ℕ) (kind : Kind) (pool u : ℕ) (x : UnitSums) : Type 0 where
@@ -32,8 +23,12 @@ pub record SumsAre (unit : ℕ → UnitRow) (m id : ℕ) (kind : Kind) (pool u :
   pub rows : x .rows ≡ unitRows unit u id
   pub credit : x .credit ≡ unitCredit unit u id kind pool
   pub charge : x .charge ≡ unitCharge unit u id kind pool
-  pub cut : x .cut ≡ less (unitCutAbove unit u id kind pool) (unitCutBelow unit u id kind pool)
   pub few : x .rows ≤ u
   pub credit-small : x .credit ≤ u * moneyLimit
   pub charge-small : x .charge ≤ u * moneyLimit
-  pub cut-small : natAbs (x .cut) ≤ u * million
+
+-- what was cut off the first u of the rows, and how large that can be: at most 600 of at most 1,000,000 each
+pub record CutsAre (unit : ℕ → UnitRow) (m id : ℕ) (kind : Kind) (pool u : ℕ) (x : ℤ) : Type 0 where
+  pub within : u ≤ m
+  pub cut : x ≡ less (unitCutAbove unit u id kind pool) (unitCutBelow unit u id kind pool)
+  pub small : natAbs x ≤ u * million

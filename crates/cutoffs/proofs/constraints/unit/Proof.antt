@@ -1,5 +1,4 @@
 -- `cutoffs::constraints::unit` meets its contract. The unit rows stand in the book, and what they cut off is summed over the constraint's own. Assumes nothing.
-use mir.Syntax.{w64}
 use mir.Facts.{toZ-ofZ}
 use borrow.Author.Needs.{needs, sfits-of}
 use Rattle.book.proofs.Room.{units-room}
@@ -16,20 +15,20 @@ recovery-of-requires c κs = constraint-rule (c .before .pre .1 .0) _ (c .before
 units-at-requires : tie.Need-units-at-requires
 units-at-requires c κs = search needs
 
-sub-unit-sums : tie.Need-sub-unit-sums
-sub-unit-sums c = search needs
+sub-unit-cut : tie.Need-sub-unit-cut
+sub-unit-cut c = search needs
 
-part-unit-sums-start : tie.Need-part-unit-sums-start
-part-unit-sums-start c = search needs
+part-unit-cut-start : tie.Need-part-unit-cut-start
+part-unit-cut-start c = search needs
 
-part-unit-sums-end : tie.Need-part-unit-sums-end
-part-unit-sums-end c = search needs
+part-unit-cut-end : tie.Need-part-unit-cut-end
+part-unit-cut-end c = search needs
 
-cast-unit-sums : tie.Need-cast-unit-sums
-cast-unit-sums c = search needs
+cast-unit-cut : tie.Need-cast-unit-cut
+cast-unit-cut c = search needs
 
-unit-sums-requires : tie.Need-unit-sums-requires
-unit-sums-requires c κs =
+unit-cut-requires : tie.Need-unit-cut-requires
+unit-cut-requires c κs =
     let start = c .before .before .before .before .before in
     let from = c .before .before .units-at .ensures in
     let known = start .pre .1 .0 in
@@ -37,8 +36,9 @@ unit-sums-requires c κs =
 
 returns : tie.Need-returns
 returns c =
-    let start = c .before .before .before .before .before .before .before in
-    unit-is (bookIn (start .args .book .now) (start .args .h)) _ _ (c .before .before .before .before .before .recovery-of .ensures) (rw (c .before .before .before .before .units-at .ensures) at (c .before .unit-sums .ensures)) (toZ-ofZ {w = w64} {z = c .before .unit-sums .result .cut} (sfits-of (c .struct-told .given .1 .1 .1 .0 .1)))
+    let start = c .before .before .before .before .before .before in
+    rw (toZ-ofZ (sfits-of (c .unit-cut .ok)))
+    (unit-is (bookIn (start .args .book .now) (start .args .h)) _ _ (c .before .before .before .before .recovery-of .ensures) (rw (c .before .before .before .units-at .ensures) at (c .unit-cut .ensures)))
 
 pub unit-spec : {M : Type 1} → statement M
 unit-spec =
@@ -46,9 +46,9 @@ unit-spec =
     (tie.spec
     recovery-of-requires
     units-at-requires
-    sub-unit-sums
-    part-unit-sums-start
-    part-unit-sums-end
-    cast-unit-sums
-    unit-sums-requires
+    sub-unit-cut
+    part-unit-cut-start
+    part-unit-cut-end
+    cast-unit-cut
+    unit-cut-requires
     returns)
