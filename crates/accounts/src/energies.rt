@@ -29,7 +29,7 @@ pub fn part_in(source: Source, h: Header, locked: Header) -> EnergyPart
 }
 
 // An account's own energies in the book, and in the one that test payments are settled by.
-#[derive(Drop)]
+#[derive(Clone, Copy)]
 pub struct OwnEnergies {
     pub current: Totals,
     pub locked: Totals,

@@ -1,4 +1,5 @@
 // An account's own rows: its energy by region, and whether the book knows it.
+#![tactic(auto)]
 pub mod energies; // energies.rt: a book's energies as a part of its bytes
 
 ghost use Rattle.std.specs.Prelude.{◌≡◌, not, ℕ, ◌*◌, ◌≤◌, ◌<◌, eqb, length};
@@ -14,7 +15,7 @@ use totals::entries;
 use totals::entries::{EnergyPart, Totals};
 
 // What an account has in each region, and whether it has an energy row at all.
-#[derive(Drop)]
+#[derive(Clone, Copy)]
 pub struct Held {
     pub own: Totals,
     pub any: bool,

@@ -13,7 +13,7 @@ use numbers::round::Rounded;
 use records::rows::Constraint;
 
 // The three pools of a regulation constraint.
-#[derive(Drop)]
+#[derive(Clone, Copy)]
 pub struct Pools {
     pub fpp: u64,
     pub used: u64,
@@ -21,7 +21,7 @@ pub struct Pools {
 }
 
 // The residual's part of each pool, by its size. That of FPP is a credit or a charge; the others are charges.
-#[derive(Drop)]
+#[derive(Clone, Copy)]
 pub struct Residual {
     pub credit: u64,
     pub charge: u64,
@@ -30,14 +30,14 @@ pub struct Residual {
 }
 
 // The two halves of a contract's payment in one region.
-#[derive(Drop)]
+#[derive(Clone, Copy)]
 pub struct Halves {
     pub consumed: u64,
     pub sent: u64,
 }
 
 // What rounding the pools of a regulation constraint cut off. Unused is what used leaves, and not rounded itself.
-#[derive(Drop)]
+#[derive(Clone, Copy)]
 pub struct PoolCuts {
     pub fpp: i64,
     pub used: i64,

@@ -1,4 +1,5 @@
 // What a caller in C or Rust is answered (include/fervolatro.h): plain structs of numbers, and how each case of an answer fills them.
+#![tactic(auto)]
 ghost use Rattle.std.specs.Prelude.{◌≡◌};
 ghost use Rattle.answers.specs.Answers.{verdict_answer, written_answer, heading_answer, entry_answer, pool_answer, stage_number, cut_answer, cost_answer, nmas_size_answer, nmas_row_answer, nmas_entry_answer, no_row_answer};
 ghost use Rattle.nmas_reading.specs.Inner.Sized.{Sized, RowSized};
@@ -15,7 +16,7 @@ use statement::Written;
 
 // `fervolatro_verdict`: refusal 0 is acceptance, and its place is 0.
 #[repr(C)]
-#[derive(Drop)]
+#[derive(Clone, Copy)]
 pub struct VerdictAnswer {
     pub refusal: u64,
     pub place: u64,
@@ -38,7 +39,7 @@ pub fn answer(v: Verdict) -> VerdictAnswer
 
 // `fervolatro_written`: refusal 0 is success, and then length is how many bytes were written, or how many there will be.
 #[repr(C)]
-#[derive(Drop)]
+#[derive(Clone, Copy)]
 pub struct WrittenAnswer {
     pub refusal: u64,
     pub place: u64,
@@ -64,7 +65,7 @@ pub fn written(w: Written) -> WrittenAnswer
 
 // `fervolatro_heading`: refusal 0 is success, and then the other fields are the header's.
 #[repr(C)]
-#[derive(Drop)]
+#[derive(Clone, Copy)]
 pub struct HeadingAnswer {
     pub refusal: u64,
     pub place: u64,
@@ -102,7 +103,7 @@ pub fn heading(h: HeadingRead) -> HeadingAnswer
 
 // `fervolatro_entry`: refusal 0 is success, and then the other fields are the line's.
 #[repr(C)]
-#[derive(Drop)]
+#[derive(Clone, Copy)]
 pub struct EntryAnswer {
     pub refusal: u64,
     pub place: u64,
@@ -140,7 +141,7 @@ pub fn entry(l: LineRead) -> EntryAnswer
 
 // `fervolatro_pool`: refusal 0 is success, and then the other fields are the pool's balance.
 #[repr(C)]
-#[derive(Drop)]
+#[derive(Clone, Copy)]
 pub struct PoolAnswer {
     pub refusal: u64,
     pub place: u64,
@@ -173,7 +174,7 @@ pub fn pool(b: Balanced) -> PoolAnswer
 // `fervolatro_cut`: refusal 0 is success, and then the other fields are the stage's: its number, its region, and what its roundings cut off over
 // the divisor.
 #[repr(C)]
-#[derive(Drop)]
+#[derive(Clone, Copy)]
 pub struct CutAnswer {
     pub refusal: u64,
     pub place: u64,
@@ -227,7 +228,7 @@ pub fn cut(found: Cutoff) -> CutAnswer
 
 // `fervolatro_cost`: refusal 0 is success, and then amount is the payment or the base cost.
 #[repr(C)]
-#[derive(Drop)]
+#[derive(Clone, Copy)]
 pub struct CostAnswer {
     pub refusal: u64,
     pub place: u64,
@@ -253,7 +254,7 @@ pub fn cost(made: Cost) -> CostAnswer
 
 // `fervolatro_nmas_size`: refusal 0 is success, and then rows is how many rows the text has.
 #[repr(C)]
-#[derive(Drop)]
+#[derive(Clone, Copy)]
 pub struct NmasSizeAnswer {
     pub refusal: u64,
     pub place: u64,
@@ -279,7 +280,7 @@ pub fn nmas_size(read: RowsRead) -> NmasSizeAnswer
 
 // `fervolatro_nmas_entry`: refusal 0 is success, and then the other fields are the row's, with their signs.
 #[repr(C)]
-#[derive(Drop)]
+#[derive(Clone, Copy)]
 pub struct NmasEntryAnswer {
     pub refusal: u64,
     pub place: u64,

@@ -1,5 +1,6 @@
 // The three demands, asked of the library's calls themselves. Each function here makes one call or two, and its contract is the demand's own
 // definition: nothing lies between a demand and the edge, and a call that loses its promise is refused here. Nobody calls these functions.
+#![tactic(auto)]
 ghost use Rattle.std.specs.Prelude.{◌≡◌, List, ℕ};
 ghost use Rattle.reading.specs.Rewriting.{rewritten};
 ghost use Rattle.unpacking.specs.Unpacking.{unpacked};
@@ -106,7 +107,7 @@ pub fn base_cost(rows: &[u8], id: u32, service: u64) -> CostAnswer
 }
 
 // What two calls answer.
-#[derive(Drop)]
+#[derive(Clone, Copy)]
 pub struct Both {
     pub first: WrittenAnswer,
     pub second: WrittenAnswer,

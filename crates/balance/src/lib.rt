@@ -1,4 +1,5 @@
 // The balance of a pool: what it has to recover, how many lines all accounts have in it, and what they sum to.
+#![tactic(auto)]
 pub mod places; // places.rt: where the pool of a number stands
 mod pools; // pools.rt: the balance of each kind of pool
 
@@ -27,7 +28,7 @@ use recovery::kinds::Kind;
 use sections::Verdict;
 
 // A pool's balance. Money is in ten-thousandths of a dollar.
-#[derive(Drop)]
+#[derive(Clone, Copy)]
 pub struct Balance {
     pub amount: i64,
     pub lines: usize,
@@ -35,7 +36,7 @@ pub struct Balance {
 }
 
 // A pool's balance, or the refusal's number and place.
-#[derive(Drop)]
+#[derive(Clone, Copy)]
 pub enum Balanced {
     Pool(Balance),
     Refused(u8, usize),

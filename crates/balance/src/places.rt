@@ -10,7 +10,7 @@ use records::rows::Constraint;
 use recovery::kinds::Kind;
 
 // A pool of a constraint, a contract's pool, or a number past the end.
-#[derive(Drop)]
+#[derive(Clone, Copy)]
 pub enum Place {
     Constraint(usize, Kind),
     Contract(usize),

@@ -4,7 +4,7 @@ ghost use Rattle.book.specs.Header.{book_marked, header_of, in_range, units_from
 
 use ground::read;
 
-#[derive(Drop)]
+#[derive(Clone, Copy)]
 pub struct Header {
     pub interval: u16,
     pub date: u32,

@@ -2,6 +2,7 @@
 // The unit rows come first, in a tree: an account's key has 32 bits, of which the first 8 choose one of 256 roots and each further bit one of
 // two children, until the place is empty or has a row of the account. No two accounts have the same key, so no way is longer than 25 links,
 // whatever the accounts are. The energy rows are sorted by account, and each account of theirs is looked up once.
+#![tactic(auto)]
 ghost use Rattle.std.specs.Prelude.{◌≡◌, [], ◌+◌, ◌*◌, ◌≤◌, ◌<◌, length};
 ghost use Rattle.records.specs.Rows.{energy_row, unit_row};
 ghost use Rattle.census.specs.Inner.Tree.{key_of, root_of, child_of, Place, Grown};

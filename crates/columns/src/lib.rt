@@ -1,4 +1,5 @@
 // The columns of the reconciliation file: how a field is spelled in each, and its writing into a lent slice.
+#![tactic(auto)]
 ghost use Rattle.std.specs.Prelude.{◌≡◌, ℕ, ◌+◌, ◌^◌, ◌≤◌, ◌<◌, length};
 ghost use Rattle.ground.specs.Inner.Put.{Wrote};
 ghost use Rattle.market.specs.Words.{letters_of, Has};
@@ -9,7 +10,7 @@ use market::{PaymentType, Region, Word};
 use numbers::sign;
 
 // Which words stand in a column; in one of numbers none do.
-#[derive(Drop)]
+#[derive(Clone, Copy)]
 pub enum Words {
     No,
     Service,
@@ -31,7 +32,7 @@ impl Words {
 }
 
 // How a column's fields are spelled, and which are in its range. A charge is at most 0, and held by its size.
-#[derive(Drop)]
+#[derive(Clone, Copy)]
 pub struct Form {
     pub words: Words,
     pub charge: bool,

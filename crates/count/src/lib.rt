@@ -1,4 +1,5 @@
 // How many lines an account has, without making one: its unit rows are told by their accounts, and the mode says how many lines each has.
+#![tactic(auto)]
 ghost use Rattle.std.specs.Prelude.{◌≡◌, cond, ◌+◌, ◌*◌, ◌≤◌, ◌<◌, leb, length};
 ghost use Rattle.sections.specs.Search.{all};
 ghost use Rattle.sections.specs.Total.{total};
@@ -15,7 +16,7 @@ use records::rows;
 use records::rows::{Constraint, Contract};
 
 // Where a search among the constraints stands, and how many lines there are so far.
-#[derive(Drop)]
+#[derive(Clone, Copy)]
 pub struct Met {
     pub cursor: usize,
     pub lines: usize,

@@ -1,4 +1,5 @@
 // What the roundings of a pool cut off: for each rounding stage the sum over all accounts, a signed numerator over the stage's divisor.
+#![tactic(auto)]
 mod constraints; // constraints.rt: the stages of a constraint's pools
 mod contracts; // contracts.rt: the stages of a contract's pool
 
@@ -30,7 +31,7 @@ use sections::Verdict;
 
 // The rounding stages: a contingency's lines; a regulation pool, its unit lines, its residual pool and that one's shares; and of a contract, region by
 // region, its part of the payment, that part halved, and the lines by ACE and by ASOE.
-#[derive(Drop)]
+#[derive(Clone, Copy)]
 pub enum Stage {
     Line,
     Pool,
@@ -44,7 +45,7 @@ pub enum Stage {
 }
 
 // What the roundings of one stage cut off, summed, over their divisor. The region is 0 but in a contract's stages.
-#[derive(Drop)]
+#[derive(Clone, Copy)]
 pub struct Cut {
     pub stage: Stage,
     pub region: u8,
@@ -53,7 +54,7 @@ pub struct Cut {
 }
 
 // A stage's cut-off sum, or the refusal's number and place.
-#[derive(Drop)]
+#[derive(Clone, Copy)]
 pub enum Cutoff {
     Cut(Cut),
     Refused(u8, usize),

@@ -1,5 +1,6 @@
 // Numbers as decimal text, read where they stand. Each digit is looked at once. Every loop ends after as many turns as its caller says: where
 // these are constants, the compiler writes the turns out one by one.
+#![tactic(auto)]
 ghost use Rattle.std.specs.Prelude.{◌≡◌, true, false, cond, ◌+◌, ◌-◌, ◌*◌, ◌^◌, ◌≤◌, ◌<◌, length};
 ghost use Rattle.ground.specs.Bytes.{byte_at};
 ghost use Rattle.decimal.specs.Standing.{is_digit, Decides};
@@ -7,7 +8,7 @@ ghost use Rattle.decimal_reading.specs.Inner.Taking.{spare_zero, far, SumAt, Fro
 ghost use Rattle.decimal_reading.specs.Sided.{SidedThen};
 
 // What was read: whether it is there, its value, and where it ends.
-#[derive(Drop)]
+#[derive(Clone, Copy)]
 pub struct Taken {
     pub good: bool,
     pub value: u64,

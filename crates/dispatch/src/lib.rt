@@ -1,6 +1,7 @@
 // Payments and base costs, made from dispatch rows: the sum over the rows that the question names, or 16 at the first row at fault.
 // One pass, and no row is kept: rows of one id and service stand side by side, so a row asks for two numbers of those before it, and for one as long
 // as all rows are ordinary, since no sum can then pass the limit.
+#![tactic(auto)]
 ghost use Rattle.std.specs.Prelude.{◌≡◌, true, cond, ◌&&◌, ◌+◌, ◌*◌, ◌/◌, ◌≤◌, eqb, leb, ltb, length};
 ghost use Rattle.ground.specs.Units.{money_limit};
 ghost use Rattle.sections.specs.First.{first_bad};
@@ -13,14 +14,14 @@ use ground::read;
 use numbers::{round, wide};
 
 // A payment or a base cost in units of money, or the refusal's number and place.
-#[derive(Drop)]
+#[derive(Clone, Copy)]
 pub enum Cost {
     Amount(u64),
     Refused(u8, usize),
 }
 
 // 16 bytes. Of a payment row, which has id 0, price is the service's price in the region; of any other it is the constraint's marginal value.
-#[derive(Drop)]
+#[derive(Clone, Copy)]
 pub struct DispatchRow {
     pub id: u32,
     pub service: u8,
@@ -121,7 +122,7 @@ fn is_ordinary(r: DispatchRow, before: u64) -> bool
 }
 
 // How many rows at the front are ordinary, and what those of them come to that are asked for.
-#[derive(Drop)]
+#[derive(Clone, Copy)]
 struct Front {
     rows: usize,
     asked: u64,

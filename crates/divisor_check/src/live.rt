@@ -9,7 +9,7 @@ use records::rows;
 use records::rows::Constraint;
 
 // The regions that have energy of each kind.
-#[derive(Drop)]
+#[derive(Clone, Copy)]
 pub(crate) struct Live {
     pub(crate) ace: u64,
     pub(crate) asoe: u64,

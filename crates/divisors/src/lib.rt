@@ -1,5 +1,6 @@
 // The energy over a constraint's regions: an account's, or the total that the constraint divides by. Each is summed on a walk over the set bits of
 // the constraint's mask (market::Region), and read where it stands: no list of five is copied for a constraint.
+#![tactic(auto)]
 ghost use Rattle.std.specs.Prelude.{◌≡◌, ℕ, ◌≤◌, ◌<◌, length};
 ghost use Rattle.records.specs.Rows.{entry_row};
 ghost use Rattle.rules.specs.Inner.Facts.{EntryRule};
@@ -12,7 +13,7 @@ use records::rows;
 use records::rows::Constraint;
 
 // What an account has over a constraint's regions of the energy that its cost is shared by, and the total that the constraint divides by.
-#[derive(Drop)]
+#[derive(Clone, Copy)]
 pub struct Share {
     pub own: u64,
     pub total: u64,

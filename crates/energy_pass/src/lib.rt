@@ -1,6 +1,7 @@
 // The energy rows in one pass: their fields, their order and the sums by region, which are then held against the region entries.
 // An energy is no larger than its region's sum, so that the limit of an entry, which has been seen to hold, is the limit of its rows too, and
 // no row is held against it.
+#![tactic(auto)]
 ghost use Rattle.std.specs.Prelude.{◌≡◌, ℕ, ◌+◌, ◌*◌, ◌≤◌, ◌<◌, length};
 ghost use Rattle.records.specs.Rows.{entry_row, energy_row};
 ghost use Rattle.rules.specs.Inner.Facts.{EntryRule};
@@ -16,7 +17,7 @@ use totals::entries;
 use totals::entries::Totals;
 
 // How many rows hold before the first that does not, and their sums by region.
-#[derive(Drop)]
+#[derive(Clone, Copy)]
 pub struct Summed {
     pub rows: usize,
     pub totals: Totals,

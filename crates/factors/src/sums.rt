@@ -16,7 +16,7 @@ use records::rows::{Constraint, UnitRow};
 use sections::Checked;
 
 // The sums over a run of unit rows, by their sizes, and the row behind it.
-#[derive(Drop)]
+#[derive(Clone, Copy)]
 pub struct Sums {
     pub next: usize,
     pub pcf: u64,

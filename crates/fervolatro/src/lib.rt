@@ -1,4 +1,5 @@
 // The library as C and Rust see it (include/fervolatro.h): numbers and byte slices in, plain structs out. Nothing is decided here.
+#![tactic(auto)]
 ghost use Rattle.std.specs.Prelude.{◌≡◌};
 ghost use Rattle.book.specs.Table.{verdict};
 ghost use Rattle.statement.specs.Lent.{length_for};

@@ -3,6 +3,7 @@
 // unit row of the locked book says whether the first book has its account. Then the first tree is no longer needed: its array takes the tree of
 // the locked book's unit rows, and those that are new there, not marked and without an energy row are counted. A second array would not fit
 // the stack that a call may use.
+#![tactic(auto)]
 ghost use Rattle.std.specs.Prelude.{◌≡◌, ℕ, ◌+◌, ◌*◌, ◌%◌, ◌≤◌, ◌<◌, length};
 ghost use Rattle.sections.specs.Total.{total};
 ghost use Rattle.records.specs.Rows.{energy_row};
@@ -19,7 +20,7 @@ ghost use Rattle.joint.specs.Inner.Added.{energy_adds, unit_known, unit_adds};
 use records::find;
 
 // Where the rows that name a book's accounts stand in its bytes, and how many they are: n energy rows and m unit rows.
-#[derive(Drop)]
+#[derive(Clone, Copy)]
 pub struct NamingRows {
     pub energies: usize,
     pub n: usize,

@@ -1,5 +1,6 @@
 // Reads four bytes of account and then a book from standard input, and writes the account's statement line by line, or `refused N at PLACE`.
 // Every byte of the text is in the contract of `text::put_listing`; this program only reads and writes.
+#![tactic(auto)]
 ghost use Rattle.std.specs.Prelude.{◌≡◌, length};
 
 use libc::{STDIN_FILENO, STDOUT_FILENO};

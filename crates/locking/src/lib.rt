@@ -1,5 +1,6 @@
 // Test payments keep the energy of the final run: whose energies settle a contract, the current book's or the locked one's, and whether the
 // locked one is read at all.
+#![tactic(auto)]
 ghost use Rattle.std.specs.Prelude.{◌≡◌, not, cond, ◌+◌, ◌*◌, ◌≤◌, length};
 ghost use Rattle.ground.specs.Bytes.{part_from};
 ghost use Rattle.sections.specs.First.{first_bad};
@@ -11,7 +12,7 @@ use records::rows;
 use sections::Checked;
 
 // Whose energies and region totals settle a contract.
-#[derive(Drop)]
+#[derive(Clone, Copy)]
 pub enum Source {
     Current,
     Locked,

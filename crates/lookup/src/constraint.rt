@@ -26,7 +26,7 @@ use statement::Line;
 use totals::entries::Totals;
 
 // Whose line is asked for, at which unit row the search stands, and what is left of the number.
-#[derive(Drop)]
+#[derive(Clone, Copy)]
 pub struct Asked {
     pub account: u32,
     pub row: usize,
@@ -34,7 +34,7 @@ pub struct Asked {
 }
 
 // The line; or there are fewer, and then the row behind the constraint's unit rows, and what the number has beyond the last line.
-#[derive(Drop)]
+#[derive(Clone, Copy)]
 pub enum Sought {
     Line(Line),
     Past(usize, usize),

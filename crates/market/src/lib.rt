@@ -1,12 +1,13 @@
 // Services, regions and a constraint's mode: what the numbers of a record stand for, and the words of the market's papers.
 // Raise or lower, the energy that a cost is shared by, the region's bit and name and the mode's data are asked here and nowhere else.
+#![tactic(auto)]
 ghost use Rattle.std.specs.Prelude.{◌≡◌, ◌∷◌, ◌-◌, ◌^◌, ◌<◌, length};
 ghost use Rattle.market.specs.Kinds.{service_numbers, region_numbers, is_service, raises, regulates, basis_of, picked, bit_set, mode_with};
 ghost use Rattle.market.specs.Inner.Masks.{regions_in};
 ghost use Rattle.market.specs.Words.{Has, region_name, payment_type_name, restart_name};
 
 // A market frequency service, by its number.
-#[derive(Drop)]
+#[derive(Clone, Copy)]
 pub struct Service {
     pub number: u8,
 }
@@ -80,7 +81,7 @@ impl Service {
 }
 
 // By which energy a cost is shared: that consumed (ACE), that sent out (ASOE), or the residual of both.
-#[derive(Drop)]
+#[derive(Clone, Copy)]
 pub enum Basis {
     Ace,
     Asoe,
@@ -115,14 +116,14 @@ impl Basis {
 }
 
 // A word of the market's papers: the first `count` of its letters.
-#[derive(Drop)]
+#[derive(Clone, Copy)]
 pub struct Word {
     pub letters: [u8; 12],
     pub count: usize,
 }
 
 // A region of the market, by its number.
-#[derive(Drop)]
+#[derive(Clone, Copy)]
 pub struct Region {
     pub number: u8,
 }
@@ -226,14 +227,14 @@ impl Region {
 }
 
 // A step of the walk over a mask's regions, which go from the lowest bit up: one region, and the mask of those behind it.
-#[derive(Drop)]
+#[derive(Clone, Copy)]
 pub struct Step {
     pub region: Region,
     pub rest: u8,
 }
 
 // What a restart contract's payment is for, by its number.
-#[derive(Drop)]
+#[derive(Clone, Copy)]
 pub struct PaymentType {
     pub number: u8,
 }
@@ -284,7 +285,7 @@ pub fn restart() -> Word
 }
 
 // How a constraint's cost is shared. Only a factored one has a price, a response and a usage.
-#[derive(Drop)]
+#[derive(Clone, Copy)]
 pub enum Mode {
     Contingency,
     Factored {

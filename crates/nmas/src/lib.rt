@@ -1,4 +1,5 @@
 // A row of the reconciliation file: seventeen fields with commas between and a line feed behind, written into a lent slice.
+#![tactic(auto)]
 ghost use Rattle.std.specs.Prelude.{◌≡◌, ℕ, ◌+◌, ◌≤◌, ◌<◌, length, get_or};
 ghost use Rattle.ground.specs.Inner.Put.{Wrote};
 ghost use Rattle.columns.specs.Columns.{InRange};
@@ -6,7 +7,7 @@ ghost use Rattle.nmas.specs.Rows.{fields_text};
 ghost use Rattle.nmas.specs.Inner.Cells.{held, fields_run, row_in};
 
 // A row's numbers. Energies are in kWh, amounts in units of money, ACE and what is recovered by their sizes: the text has their minus.
-#[derive(Drop)]
+#[derive(Clone, Copy)]
 pub struct Row {
     pub date: u64,
     pub run: u64,

@@ -1,5 +1,6 @@
 // The reconciliation file of an account: a row for each contract and benefiting region, written from an accepted book. The text is measured before
 // its first byte is written.
+#![tactic(auto)]
 ghost use Rattle.std.specs.Prelude.{◌≡◌, ℕ, ◌+◌, ◌*◌, ◌≤◌, ◌<◌, length, nat_abs};
 ghost use Rattle.ground.specs.Bytes.{part_from};
 ghost use Rattle.ground.specs.Inner.Put.{Wrote};
@@ -34,7 +35,7 @@ use statement::Written;
 use totals::entries::Totals;
 
 // What all rows of a file have in common.
-#[derive(Drop)]
+#[derive(Clone, Copy)]
 pub struct Head {
     pub date: u64,
     pub run: u64,

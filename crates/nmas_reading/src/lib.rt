@@ -1,4 +1,5 @@
 // The reconciliation file, read: how many rows a text has, and each by its number, or the first line that is none.
+#![tactic(auto)]
 ghost use Rattle.std.specs.Prelude.{◌≡◌, cond, ℕ, ◌+◌, ◌<◌, length};
 ghost use Rattle.decimal.specs.Standing.{Decides};
 ghost use Rattle.columns.specs.Columns.{InRange};
@@ -9,21 +10,21 @@ ghost use Rattle.nmas_reading.specs.Inner.Taking.{Goes, FieldsFound, row_keeps, 
 use nmas::Row;
 
 // How many rows there are, or the refusal and the line.
-#[derive(Drop)]
+#[derive(Clone, Copy)]
 pub enum RowsRead {
     Rows(usize),
     Refused(u8, usize),
 }
 
 // One row, or the refusal and the place.
-#[derive(Drop)]
+#[derive(Clone, Copy)]
 pub enum RowRead {
     Row(Row),
     Refused(u8, usize),
 }
 
 // Whether fields or a row stand somewhere, and where they end.
-#[derive(Drop)]
+#[derive(Clone, Copy)]
 pub struct Found {
     pub good: bool,
     pub next: usize,
@@ -145,7 +146,7 @@ fn kept(asked: Row, wanted: bool, fields: &[u64; 17]) -> Row
 }
 
 // How a walk over a text ended: all of it is rows, or a line is none. The row of a number is handed out on the way.
-#[derive(Drop)]
+#[derive(Clone, Copy)]
 pub struct Walk {
     pub good: bool,
     pub rows: usize,

@@ -5,7 +5,7 @@ ghost use Rattle.numbers.specs.Inner.Round.{Roundable};
 use crate::sign;
 
 // A quotient as rounded, and what was cut off: exact less rounded, over the divisor.
-#[derive(Drop)]
+#[derive(Clone, Copy)]
 pub struct Rounded {
     pub whole: u64,
     pub cut: i64,

@@ -1,4 +1,5 @@
 // Statements read back: the header, one line by its number, and the whole written again.
+#![tactic(auto)]
 ghost use Rattle.std.specs.Prelude.{◌≡◌};
 ghost use Rattle.reading.specs.Calls.{heading_read, line_read};
 
@@ -7,14 +8,14 @@ use statement::{Heading, Line};
 pub mod rewriting; // rewriting.rt: a statement that was read, written again
 
 // A statement's header, or the refusal's number and place.
-#[derive(Drop)]
+#[derive(Clone, Copy)]
 pub enum HeadingRead {
     Heading(Heading),
     Refused(u8, usize),
 }
 
 // One line of a statement, or the refusal's number and place.
-#[derive(Drop)]
+#[derive(Clone, Copy)]
 pub enum LineRead {
     Line(Line),
     Refused(u8, usize),

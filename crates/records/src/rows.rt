@@ -6,7 +6,7 @@ ghost use Rattle.records.specs.Rows.{entry_row, constraint_row, unit_row, energy
 use ground::read;
 
 // A region's totals, 12 bytes. ACE is -ace.
-#[derive(Drop)]
+#[derive(Clone, Copy)]
 pub struct Entry {
     pub ace: u32,
     pub asoe: u32,
@@ -14,7 +14,7 @@ pub struct Entry {
 }
 
 // 40 bytes. RCF is prcf - nrcf, of which one is 0: nrcf is the size of NRCF, which is min(0, RCF). DRCF is -drcf.
-#[derive(Drop)]
+#[derive(Clone, Copy)]
 pub struct Constraint {
     pub id: u32,
     pub service: u8,
@@ -32,7 +32,7 @@ pub struct Constraint {
 }
 
 // 20 bytes. CF is pcf - ncf, of which one is 0: ncf is the size of NCF, which is min(0, CF). DCF is -dcf.
-#[derive(Drop)]
+#[derive(Clone, Copy)]
 pub struct UnitRow {
     pub constraint: u32,
     pub unit: u32,
@@ -43,7 +43,7 @@ pub struct UnitRow {
 }
 
 // 24 bytes. ACE is -ace, and residual ACE -race.
-#[derive(Drop)]
+#[derive(Clone, Copy)]
 pub struct EnergyRow {
     pub account: u32,
     pub region: u8,
@@ -55,7 +55,7 @@ pub struct EnergyRow {
 }
 
 // 36 bytes. One benefit factor for each region.
-#[derive(Drop)]
+#[derive(Clone, Copy)]
 pub struct Contract {
     pub id: u32,
     pub kind: u8,

@@ -116,7 +116,7 @@ fn charges(bytes: &[u8], e: EnergyPart, k: Contract) -> u64
 }
 
 // How many regions a contract benefits, and what all accounts pay in them.
-#[derive(Drop)]
+#[derive(Clone, Copy)]
 pub struct Paid {
     pub regions: usize,
     pub charge: u64,

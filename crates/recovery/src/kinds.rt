@@ -8,7 +8,7 @@ use amounts::pools;
 use records::rows::{Constraint, UnitRow};
 
 // A constraint of mode 0 has one pool, one of mode 1 three (FPP, used, unused), one of mode 2 the unused alone; a contract has one.
-#[derive(Drop)]
+#[derive(Clone, Copy)]
 pub enum Kind {
     Contingency,
     Fpp,
@@ -46,7 +46,7 @@ impl Kind {
 }
 
 // The amount to recover, the pool that unit rows share by their factors, and the residual pool, which is credit - charge.
-#[derive(Drop)]
+#[derive(Clone, Copy)]
 pub struct Recovery {
     pub amount: u64,
     pub pool: u64,

@@ -15,7 +15,7 @@ use records::rows::UnitRow;
 use records::{find, rows};
 
 // How many rows there are, and what they are credited and charged.
-#[derive(Drop)]
+#[derive(Clone, Copy)]
 pub struct UnitSums {
     pub rows: usize,
     pub credit: u64,

@@ -1,4 +1,5 @@
 // The first record of a section that a check refuses, and the verdict it comes to. One loop serves every check of single records.
+#![tactic(auto)]
 ghost use Rattle.std.specs.Prelude.{◌≡◌, ◌+◌, ◌*◌, ◌≤◌, length};
 ghost use Rattle.ground.specs.Bytes.{part_from};
 ghost use Rattle.sections.specs.First.{first_bad};
@@ -9,7 +10,7 @@ use rules::{fields, order};
 use sections::{Checked, Verdict};
 
 // A check of one record, alone or against the record before it.
-#[derive(Drop)]
+#[derive(Clone, Copy)]
 pub enum Check {
     EntryFields,
     ConstraintFields,

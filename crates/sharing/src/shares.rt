@@ -14,7 +14,7 @@ use records::rows::EnergyRow;
 use totals::entries;
 
 // An amount that is shared by the energy of one kind in the regions of a mask, which together is the whole.
-#[derive(Drop)]
+#[derive(Clone, Copy)]
 pub struct Part {
     pub amount: u64,
     pub whole: u64,
@@ -23,7 +23,7 @@ pub struct Part {
 }
 
 // What one account owns in a part, and the row behind its last.
-#[derive(Drop)]
+#[derive(Clone, Copy)]
 struct Group {
     own: u64,
     end: usize,

@@ -1,5 +1,6 @@
 // The bytes of a statement, written into a lent buffer: its header and its lines.
 // Each writer answers where its bytes end; every other byte of the buffer is as it was.
+#![tactic(auto)]
 ghost use Rattle.std.specs.Prelude.{◌≡◌, [], ◌∷◌, ◌++◌, ◌+◌, ◌≤◌, length};
 ghost use Rattle.ground.specs.Le.{le16, le32};
 ghost use Rattle.ground.specs.Put.{put};
@@ -9,7 +10,7 @@ ghost use Rattle.statement.specs.Statement.{rcs, heading_bytes, line_bytes};
 use ground::write;
 
 // What a statement's header says.
-#[derive(Drop)]
+#[derive(Clone, Copy)]
 pub struct Heading {
     pub account: u32,
     pub date: u32,
@@ -19,7 +20,7 @@ pub struct Heading {
 }
 
 // One line of a statement. The amount is in ten-thousandths of a dollar.
-#[derive(Drop)]
+#[derive(Clone, Copy)]
 pub struct Line {
     pub id: u32,
     pub part: u8,
@@ -29,7 +30,7 @@ pub struct Line {
 }
 
 // What a call that writes a statement answers, or one that tells its length: how many bytes it has, or the refusal's number and place.
-#[derive(Drop)]
+#[derive(Clone, Copy)]
 pub enum Written {
     Length(usize),
     Refused(u8, usize),

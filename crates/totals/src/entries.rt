@@ -13,7 +13,7 @@ use records::rows::{EnergyRow, Entry};
 use sections::Checked;
 
 // Energies by region, by their sizes: a sum for each region, three times. All accounts', or one's own.
-#[derive(Drop)]
+#[derive(Clone, Copy)]
 pub struct Totals {
     pub ace: [u64; 5],
     pub asoe: [u64; 5],
@@ -21,7 +21,7 @@ pub struct Totals {
 }
 
 // Where a book's energies lie in the part of its bytes that its region entries begin: the energy rows start at `from`, and there are `rows`.
-#[derive(Drop)]
+#[derive(Clone, Copy)]
 pub struct EnergyPart {
     pub from: usize,
     pub rows: usize,

@@ -1,4 +1,5 @@
 // An account's lines of one constraint. Unit rows stand by their constraints, so a cursor walks them beside the constraints.
+#![tactic(auto)]
 ghost use Rattle.std.specs.Prelude.{◌*◌, ◌≤◌, length};
 ghost use Rattle.sections.specs.Inner.Walk.{Stands};
 ghost use Rattle.records.specs.Rows.{unit_row};
@@ -40,7 +41,7 @@ fn own_unit(
 }
 
 // Where a walk stands: at which unit row, and where its lines end in the buffer.
-#[derive(Drop)]
+#[derive(Clone, Copy)]
 pub struct Cursor {
     pub next: usize,
     pub place: usize,

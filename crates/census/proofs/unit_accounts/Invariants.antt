@@ -1,0 +1,16 @@
+-- `census::unit_accounts` meets its contract. The invariant: the rows so far stand in the tree, and the count is the number of their accounts. The measure is what is left. Assumes nothing.
+use Prim.Native.Nat.{◌≤◌, ◌-◌}
+use mathlib.Core.Path.{◌≡◌}
+use mathlib.Core.List.{[]}
+use lib.ListN.{length}
+use Rattle.records.specs.Rows.{unit_row}
+use Rattle.census.specs.Inner.Tree.{Grown}
+use Rattle.sharing.specs.Once.{named}
+use Rattle.sharing.specs.Accounts.{unit_account}
+use Rattle.census.proofs.unit_accounts.Given as goal
+
+abbrev pub invariant-loop-u : goal.invariant-loop-u
+invariant-loop-u l = (l.u ≤ l.m) × ((l.count ≡ length (named (unit_account (unit_row l.units)) l.u [])) × Grown (unit_account (unit_row l.units)) l.u l.links)
+
+abbrev pub decreases-loop-u : goal.decreases-loop-u
+decreases-loop-u l = l.m - l.u
