@@ -18,7 +18,7 @@ use Rattle.dispatch.specs.Inner.Keys.{id_service_region}
 use Rattle.dispatch.specs.Inner.Pass.{last_key, last_sum, ordinary_product, FrontIs}
 use Rattle.dispatch.specs.declared.DispatchRow.{DispatchRow}
 use Rattle.dispatch.proofs.Rows.{Ranged, ranged}
-use Rattle.dispatch.proofs.Turns.{last_sum, asked_room, Passed, passed_none, each, run_limit, passed_more}
+use Rattle.dispatch.proofs.Turns.{last_sum_lem, asked_room, Passed, passed_none, each, run_limit, passed_more}
 
 -- an ordinary row's amount
 small_amount : (r : DispatchRow) → product_of r ≤ ordinary_product → amount_of r ≤ 10_000_000_000
@@ -99,7 +99,7 @@ module _ (s : List ℕ) where
     -- the sum asked for has room for the row
     pub ordinary_room : (id service : ℕ) {a : ℕ} {named : Bool} → named ≡ (eqb r.id id && eqb r.service service) → a ≡ sum_with (dispatch_row s) id service i → named ≡ true → a + amount_of r ≤ money_limit
     ordinary_room id service h d =
-        asked_room (dispatch_row s) id service i e h d own (passed.sum ∙ last_sum (dispatch_row s) i) (run_limit s (i + 1) passed)
+        asked_room (dispatch_row s) id service i e h d own (passed.sum ∙ last_sum_lem (dispatch_row s) i) (run_limit s (i + 1) passed)
 
   -- what is handed on: the rows so far, or all of them
   pub front_stop : (n id service i : ℕ) {before a : ℕ} → i ≤ n → Ordinarily i before → a ≡ sum_with (dispatch_row s) id service i → FrontIs s n id service i a

@@ -80,9 +80,9 @@ module _ (row : ℕ → DispatchRow) where
 
   -- ---- the last row
 
-  pub last_sum : (i : ℕ) → last_sum row (i + 1) ≡ sum_with row (row i).id (row i).service (i + 1)
+  pub last_sum_lem : (i : ℕ) → last_sum row (i + 1) ≡ sum_with row (row i).id (row i).service (i + 1)
   unfolding last_sum
-  last_sum i = rw add-one
+  last_sum_lem i = rw add-one
 
   pub record Rising (n : ℕ) : Type 0 where
     pub range : (j : ℕ) → j < n → Ranged (row j)

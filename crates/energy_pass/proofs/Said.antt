@@ -6,7 +6,7 @@ use mathlib.Core.List.{List, [], ◌∷◌}
 use Rattle.ground.proofs.Every as tests
 use Rattle.sections.specs.Order.{rises_by}
 use Rattle.sections.specs.Search.{all}
-use Rattle.sections.proofs.Search.{all_each, all_of}
+use Rattle.sections.proofs.Search.{all_each, all_of_lem}
 use Rattle.rules.specs.Rules.{energy_ok, energy_below}
 use Rattle.records.specs.declared.rows.Entry.{Entry}
 use Rattle.records.specs.declared.rows.EnergyRow.{EnergyRow}
@@ -40,4 +40,4 @@ module _ (energy : ℕ → EnergyRow) (n : ℕ) (entry : ℕ → Entry) where
   unfolding energies_hold
   energies_said h =
       tests.all energy_tests_lem
-      (all_of (λ i. energy_ok (energy i)) n h.fields, (all_of (rises_by energy_below energy) n h.order, (all_of (entry_has_sums energy n entry) 5 h.sums, tt)))
+      (all_of_lem (λ i. energy_ok (energy i)) n h.fields, (all_of_lem (rises_by energy_below energy) n h.order, (all_of_lem (entry_has_sums energy n entry) 5 h.sums, tt)))

@@ -26,7 +26,7 @@ use Rattle.sections.specs.Total.{keyed}
 use Rattle.market.specs.declared.Basis.{Basis}
 use Rattle.market.specs.declared.Basis.TheVariants.{Ace, Asoe, Residual}
 use Rattle.sections.specs.declared.Verdict.TheVariants.{Accepted}
-use Rattle.sections.proofs.Search.{all_each, all_of}
+use Rattle.sections.proofs.Search.{all_each, all_of_lem}
 use Rattle.records.specs.Rows.{entry_row, constraint_row, unit_row, energy_row, contract_row}
 use Rattle.records.specs.declared.rows.Constraint.{Constraint}
 use Rattle.factors.specs.Naming.{key_of}
@@ -227,7 +227,7 @@ module _ (b : List ℕ) (a : AreBytes b) (f : Fields (book_of b)) (j : ℕ) (l :
 
   none_passes : NoFactor → none ≡ true
   none_passes h =
-      all_of (λ v. not (eqb (key_of (book_of b).unit v) r.id) || (eqb ((book_of b).unit v).pcf 0 && eqb ((book_of b).unit v).ncf 0)) (header_of b).units
+      all_of_lem (λ v. not (eqb (key_of (book_of b).unit v) r.id) || (eqb ((book_of b).unit v).pcf 0 && eqb ((book_of b).unit v).ncf 0)) (header_of b).units
       (λ u m.
       let s = sized_unit b a f u m in
       implies (eqb (key_of (book_of b).unit u) r.id) (eqb ((book_of b).unit u).pcf 0 && eqb ((book_of b).unit u).ncf 0)

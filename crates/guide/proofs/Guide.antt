@@ -34,7 +34,7 @@ use Rattle.guide.specs.Guide as guide
 use Rattle.guide.specs.Guide.{guide_lines}
 use Rattle.guide.proofs.Numbers.{sum_pos, sum_minus}
 use Rattle.guide.proofs.Sized.{SizedEnergies, SizedContract, sized_entry, sized_constraint, sized_unit, sized_energy, sized_contract}
-use Rattle.guide.proofs.Lines.{chosen, own_unit_lem, contingency_line_lem, rest_lines, region_lines_lem}
+use Rattle.guide.proofs.Lines.{chosen, own_unit_lem, contingency_line_lem, rest_lines_lem, region_lines_lem}
 
 -- ---- energies of one book: all accounts', and the account's own, by region
 
@@ -77,7 +77,7 @@ module _ (b : List ℕ) (a : AreBytes b) (f : Fields (book_of b)) (account : ℕ
       ap₂ ◌++◌
       (sym (joined_keep B.unit (of_constraint r) (λ q. eqb q.account account) (header_of b).units)
       ∙ joined_same _ _ (header_of b).units (λ u m. own_unit_lem r z s h (B.unit u) ((signed_book b).unit u) (sized_unit b a f u m) account live))
-      (rest_lines r z s h (all b) (own b account) (signed_book b).entry (guide.own_in (signed_book b) account) all_sized (λ g _. own_sized g) live))
+      (rest_lines_lem r z s h (all b) (own b account) (signed_book b).entry (guide.own_in (signed_book b) account) all_sized (λ g _. own_sized g) live))
 
   paid_same : (k : Contract) (z : SignedContract) → SizedContract k z → contract_lines (all b) (own b account) k ≡ joined (guide.region_lines (signed_book b).entry (guide.own_in (signed_book b) account) z) 5
   unfolding contract_lines

@@ -187,9 +187,9 @@ module _ (r : Constraint) (z : SignedConstraint) (s : SizedConstraint r z) (h : 
           line_same 8 (sym s.id) (sym s.mask) refl
           (by_energy_lem (only_below (round_n ((pools_of r).unused * r.drcf) 1_000_000) (factor_minus r.drcf s.drcf e)) own_te all_te)
 
-      pub rest_lines : rest_lines r (residual_pools r (pools_of r)) (over_regions own r) (over_regions all r) ≡ guide.rest_lines all_z own_z z
+      pub rest_lines_lem : rest_lines r (residual_pools r (pools_of r)) (over_regions own r) (over_regions all r) ≡ guide.rest_lines all_z own_z z
       unfolding residual_pools rest_lines guide.rest_line guide.rest_lines
-      rest_lines =
+      rest_lines_lem =
           chosen 1 s.mode
           (λ m.
           ap₂ ◌∷◌ (line_same 6 (sym s.id) (sym s.mask) refl (by_energy_lem (factor_sides s.rcf (fpp_pool_lem m)) own_te all_te))

@@ -23,7 +23,7 @@ use Rattle.ground.proofs.Part.{part_between, part_byte, part_u16, part_u32, part
 use Rattle.ground.proofs.Back.{u16_stands, u32_stands, i64_stands}
 use Rattle.numbers.proofs.Signs.{sized}
 use Rattle.calendar.specs.Calendar.{days_in, is_interval, is_date, is_run, is_period}
-use Rattle.sections.proofs.Search.{all_of}
+use Rattle.sections.proofs.Search.{all_of_lem}
 use Rattle.statement.specs.Statement.{rcs, heading_bytes, line_bytes, lines_bytes, statement_bytes}
 use Rattle.statement.specs.declared.Heading.{Heading}
 use Rattle.statement.specs.declared.Line.{Line}
@@ -187,4 +187,4 @@ module _ (h : Heading) (ls : List Line) where
       let ends : length s ≡ 24 + (heading_at s).lines * 24 = omega arith in
       let top = all (statement_marked s ∷ heading_ok (heading_at s) ∷ eqb (length s) (24 + (heading_at s).lines * 24) ∷ []) (mark_back, (ap heading_ok (heading_back w) ∙ w.ok, (eq-eqb (length s) (24 + (heading_at s).lines * 24) ends, tt))) in
       all (leb 24 (length s) ∷ headed s ∷ _ ∷ [])
-      (le-leb 24 (length s) (omega arith), (top, (all_of (line_holds s) (heading_at s).lines (λ i l. line_holds_lem v i (rw count at l)), tt)))
+      (le-leb 24 (length s) (omega arith), (top, (all_of_lem (line_holds s) (heading_at s).lines (λ i l. line_holds_lem v i (rw count at l)), tt)))

@@ -6,7 +6,7 @@ use mathlib.Core.List.{List, [], ◌∷◌}
 use Rattle.ground.proofs.Every as tests
 use Rattle.sections.specs.Order.{rises_by}
 use Rattle.sections.specs.Search.{all}
-use Rattle.sections.proofs.Search.{all_each, all_of}
+use Rattle.sections.proofs.Search.{all_each, all_of_lem}
 use Rattle.rules.specs.Rules.{unit_ok, unit_below}
 use Rattle.records.specs.declared.rows.Constraint.{Constraint}
 use Rattle.records.specs.declared.rows.UnitRow.{UnitRow}
@@ -44,4 +44,4 @@ module _ (con : ℕ → Constraint) (n : ℕ) (unit : ℕ → UnitRow) (m : ℕ)
   unfolding units_hold
   units_said h =
       tests.all unit_tests_lem
-      (all_of (λ u. unit_ok (unit u)) m h.fields, (all_of (rises_by unit_below unit) m h.order, (all_of (named_at con n unit) m h.named, (all_of (factors_at unit m con) n h.factored, tt))))
+      (all_of_lem (λ u. unit_ok (unit u)) m h.fields, (all_of_lem (rises_by unit_below unit) m h.order, (all_of_lem (named_at con n unit) m h.named, (all_of_lem (factors_at unit m con) n h.factored, tt))))

@@ -17,5 +17,5 @@ returns-in-2 c = rw c.in-2.is
 
 pub returns-in_default : goal.returns-in_default
 unfolding mode_with
-returns-in_default c = let h = c.in_default.rest in
+returns-in_default c = let h = c.in_default.in_default-own.rest in
     rw (ne_eqb _ _ h.0.0.1, ne_eqb _ _ h.0.1, ne_eqb _ _ h.1)
