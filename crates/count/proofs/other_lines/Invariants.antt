@@ -7,7 +7,7 @@ use Rattle.groups.specs.Inner.Each.{each_of}
 use Rattle.count.proofs.other_lines.Given as goal
 
 abbrev pub invariant-loop-j : goal.invariant-loop-j
-invariant-loop-j l = (l.j ≤ l.n) × ((l.lines ≡ total (λ l.j. each_of (constraint_row l.cons l.j)) l.j) × (l.lines ≤ l.j * 3))
+invariant-loop-j l = (l.j ≤ l.n) × ((l.lines ≡ total (λ j. each_of (constraint_row l.cons j)) l.j) × (l.lines ≤ l.j * 3))
 
 abbrev pub decreases-loop-j : goal.decreases-loop-j
 decreases-loop-j l = l.n - l.j

@@ -10,7 +10,7 @@ use Rattle.locking.specs.Locking.{pick, settled_by}
 use Rattle.divisor_check.proofs.contracts.Given as goal
 
 abbrev pub invariant-loop-k : goal.invariant-loop-k
-invariant-loop-k l = (l.k ≤ l.n) × (first_bad (λ l.k. contract_divides (pick (settled_by (contract_row l.contracts l.k)) (entry_row (part_from 24 l.book)) (entry_row (part_from 24 l.locked))) (contract_row l.contracts) l.k) l.k ≡ Good)
+invariant-loop-k l = (l.k ≤ l.n) × (first_bad (λ k. contract_divides (pick (settled_by (contract_row l.contracts k)) (entry_row (part_from 24 l.book)) (entry_row (part_from 24 l.locked))) (contract_row l.contracts) k) l.k ≡ Good)
 
 abbrev pub decreases-loop-k : goal.decreases-loop-k
 decreases-loop-k l = l.n - l.k

@@ -7,7 +7,7 @@ use Rattle.limit.specs.Inner.Limits.{constraint_over}
 use Rattle.limit.proofs.constraints.Given as goal
 
 abbrev pub invariant-loop-j : goal.invariant-loop-j
-invariant-loop-j l = (l.j ≤ l.n) × (l.over ≡ some (λ l.j. constraint_over (constraint_row l.cons l.j)) l.j)
+invariant-loop-j l = (l.j ≤ l.n) × (l.over ≡ some (λ j. constraint_over (constraint_row l.cons j)) l.j)
 
 abbrev pub decreases-loop-j : goal.decreases-loop-j
 decreases-loop-j l = l.n - l.j

@@ -7,7 +7,7 @@ use Rattle.limit.specs.Inner.Limits.{contract_over}
 use Rattle.limit.proofs.contracts.Given as goal
 
 abbrev pub invariant-loop-i : goal.invariant-loop-i
-invariant-loop-i l = (l.i ≤ l.n) × (l.over ≡ some (λ l.i. contract_over (contract_row l.contracts l.i)) l.i)
+invariant-loop-i l = (l.i ≤ l.n) × (l.over ≡ some (λ i. contract_over (contract_row l.contracts i)) l.i)
 
 abbrev pub decreases-loop-i : goal.decreases-loop-i
 decreases-loop-i l = l.n - l.i

@@ -9,7 +9,7 @@ use Rattle.locking.specs.Locking.{is_test}
 use Rattle.locking.proofs.first_test.Given as goal
 
 abbrev pub invariant-loop-k : goal.invariant-loop-k
-invariant-loop-k l = (l.k ≤ l.n) × (first_bad (λ l.k. not (is_test (contract_row l.contracts l.k))) l.k ≡ Good)
+invariant-loop-k l = (l.k ≤ l.n) × (first_bad (λ k. not (is_test (contract_row l.contracts k))) l.k ≡ Good)
 
 abbrev pub decreases-loop-k : goal.decreases-loop-k
 decreases-loop-k l = l.n - l.k

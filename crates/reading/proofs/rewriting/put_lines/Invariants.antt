@@ -1,6 +1,7 @@
 -- `reading::rewriting::put_lines` meets its contract. The invariant: the first i lines stand behind the header. The measure is what is left. Assumes nothing.
 use Prim.Native.Nat.{◌+◌, ◌*◌, ◌-◌, ◌≤◌}
 use Rattle.ground.specs.Inner.Put.{Wrote}
+use Rattle.statement.specs.Statement.{lines_bytes}
 use Rattle.parsing.specs.Parsing.{lines_in}
 use Rattle.reading.proofs.rewriting.put_lines.Given as goal
 
