@@ -5,7 +5,7 @@ use Rattle.accounts.proofs.Turns.{Sums}
 use Rattle.accounts.proofs.in_rows.Given as goal
 
 abbrev pub invariant-loop-r : goal.invariant-loop-r
-invariant-loop-r l = Sums (energy_row l.energy) l.n l.account l.i (record { l.ace = l.ace; l.asoe = l.asoe; l.residual = l.residual })
+invariant-loop-r l = Sums (energy_row l.energy) l.n l.account l.i (record { ace = l.ace; asoe = l.asoe; residual = l.residual })
 
 abbrev pub decreases-loop-r : goal.decreases-loop-r
 decreases-loop-r l = l.n - l.i

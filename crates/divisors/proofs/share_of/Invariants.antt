@@ -8,7 +8,7 @@ use Rattle.divisors.proofs.Turns.{energies}
 use Rattle.divisors.proofs.share_of.Given as goal
 
 abbrev pub invariant-loop-basis : goal.invariant-loop-basis
-invariant-loop-basis l = Summed (energies (entry_of (record { l.ace = l.ace; l.asoe = l.asoe; l.residual = l.residual })) l.basis) l.initial.left l.own l.left × Summed (energies (entry_row l.regions) l.basis) l.initial.left l.total l.left
+invariant-loop-basis l = Summed (energies (entry_of (record { ace = l.ace; asoe = l.asoe; residual = l.residual })) l.basis) l.initial.left l.own l.left × Summed (energies (entry_row l.regions) l.basis) l.initial.left l.total l.left
 
 abbrev pub decreases-loop-basis : goal.decreases-loop-basis
 decreases-loop-basis l = length (regions_in l.left)

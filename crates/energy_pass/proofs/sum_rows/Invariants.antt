@@ -5,7 +5,7 @@ use Rattle.energy_pass.proofs.Turns.{Rows}
 use Rattle.energy_pass.proofs.sum_rows.Given as goal
 
 abbrev pub invariant-loop-i : goal.invariant-loop-i
-invariant-loop-i l = (l.i ≤ l.n) × Rows (energy_row l.energy) l.i l.before (record { l.ace = l.ace; l.asoe = l.asoe; l.residual = l.residual })
+invariant-loop-i l = (l.i ≤ l.n) × Rows (energy_row l.energy) l.i l.before (record { ace = l.ace; asoe = l.asoe; residual = l.residual })
 
 abbrev pub decreases-loop-i : goal.decreases-loop-i
 decreases-loop-i l = l.n - l.i

@@ -9,7 +9,7 @@ use Rattle.emission.specs.Inner.Emitted.{Emitted}
 use Rattle.walk.proofs.constraints.Given as goal
 
 abbrev pub invariant-loop-j : goal.invariant-loop-j
-invariant-loop-j l = (l.j ≤ l.n) × (Emitted l.initial.buf l.place (joined (con_lines_at (entry_row l.regions) (constraint_row l.cons) (unit_row l.units) l.m l.account (record { l.ace = l.ace; l.asoe = l.asoe; l.residual = l.residual })) l.j) l.buf l.here.place × (l.j < l.n → Stands (key_of (unit_row l.units)) l.m (id_of (constraint_row l.cons) l.j) l.here.next))
+invariant-loop-j l = (l.j ≤ l.n) × (Emitted l.initial.buf l.place (joined (con_lines_at (entry_row l.regions) (constraint_row l.cons) (unit_row l.units) l.m l.account (record { ace = l.ace; asoe = l.asoe; residual = l.residual })) l.j) l.buf l.here.place × (l.j < l.n → Stands (key_of (unit_row l.units)) l.m (id_of (constraint_row l.cons) l.j) l.here.next))
 
 abbrev pub decreases-loop-j : goal.decreases-loop-j
 decreases-loop-j l = l.n - l.j

@@ -5,7 +5,7 @@ use Rattle.divisor_check.specs.Inner.Live.{LiveIs}
 use Rattle.divisor_check.proofs.live.live_of.Given as goal
 
 abbrev pub invariant-loop-g : goal.invariant-loop-g
-invariant-loop-g l = (l.g ≤ 5) × LiveIs (entry_row l.regions) l.g (record { l.ace = l.ace; l.asoe = l.asoe; l.residual = l.residual })
+invariant-loop-g l = (l.g ≤ 5) × LiveIs (entry_row l.regions) l.g (record { ace = l.ace; asoe = l.asoe; residual = l.residual })
 
 abbrev pub decreases-loop-g : goal.decreases-loop-g
 decreases-loop-g l = 5 - l.g

@@ -5,7 +5,7 @@ use Rattle.totals.specs.Inner.Turns.{TotalsOf}
 use Rattle.totals.proofs.entries.by_region.Given as goal
 
 abbrev pub invariant-loop-i : goal.invariant-loop-i
-invariant-loop-i l = (l.i ≤ l.n) × TotalsOf (energy_row l.energy) l.i (record { l.ace = l.ace; l.asoe = l.asoe; l.residual = l.residual })
+invariant-loop-i l = (l.i ≤ l.n) × TotalsOf (energy_row l.energy) l.i (record { ace = l.ace; asoe = l.asoe; residual = l.residual })
 
 abbrev pub decreases-loop-i : goal.decreases-loop-i
 decreases-loop-i l = l.n - l.i
