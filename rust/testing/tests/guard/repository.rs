@@ -97,3 +97,29 @@ pub fn without_groups(text: &str) -> String {
     let kept = (0..letters.len()).filter(|&at| !is_group(at));
     kept.map(|at| letters[at]).collect()
 }
+
+#[cfg(test)]
+mod tests {
+    use super::{behind, Repository};
+    use std::rc::Rc;
+
+    #[test]
+    fn crates_are_read() {
+        let text = "# a comment: none\nlow:\nlow_c staticlib: low std\n";
+        let files = [("crates.txt".to_owned(), Rc::from(text))];
+        let repository = Repository {
+            files: files.into_iter().collect(),
+        };
+        let listed: Vec<_> = repository.listed().collect();
+        assert_eq!(listed, [("low", ""), ("low_c", " low std")]);
+        assert_eq!(repository.crates(), ["low", "low_c"]);
+    }
+
+    #[test]
+    fn names_are_whole() {
+        let text = "unused_line = 5\nused_line = 4\n  (used_line = 6)";
+        let rests: Vec<&str> = behind(text, "used_line = ").collect();
+        assert_eq!(rests, ["4\n  (used_line = 6)", "6)"]);
+        assert_eq!(behind(text, " = ").count(), 3);
+    }
+}
