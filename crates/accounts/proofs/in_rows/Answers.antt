@@ -26,7 +26,7 @@ unfolding energy_row
 loop-r-preserved c = own_more (energy_row c.args.energy.now) _ _ _ c.loop-r.invariant c.has_key.ensures c.loop-r-test.true c.energy_row-r.ensures c.requires.by_index c.add_row.ensures
 
 pub loop-r-smaller : goal.loop-r-smaller
-loop-r-smaller c = omega (arith, (loop-again c).run.high)
+loop-r-smaller c = omega (arith, (loop-r-preserved c).run.high)
 
 pub returns : goal.returns
 unfolding energy_row
