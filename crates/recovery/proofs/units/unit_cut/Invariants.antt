@@ -7,7 +7,7 @@ use Rattle.recovery.proofs.UnitTurns.{Cutting}
 use Rattle.recovery.proofs.units.unit_cut.Given as goal
 
 abbrev pub invariant-loop-kind : goal.invariant-loop-kind
-invariant-loop-kind l = Cutting (unit_row l.units) l.m l.id l.kind l.pool l.row (to_z w64 l.cut)
+invariant-loop-kind l = Cutting (unit_row l.units) l.m l.id l.kind l.pool l.row l.cut
 
 abbrev pub decreases-loop-kind : goal.decreases-loop-kind
 decreases-loop-kind l = l.m - l.row

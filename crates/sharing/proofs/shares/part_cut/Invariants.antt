@@ -7,7 +7,7 @@ use Rattle.sharing.proofs.Groups.{CutTo}
 use Rattle.sharing.proofs.shares.part_cut.Given as goal
 
 abbrev pub invariant-loop-row : goal.invariant-loop-row
-invariant-loop-row l = CutTo l.p (energy_row l.energy) l.n l.row (to_z w64 l.cut)
+invariant-loop-row l = CutTo l.p (energy_row l.energy) l.n l.row l.cut
 
 abbrev pub decreases-loop-row : goal.decreases-loop-row
 decreases-loop-row l = l.n - l.row
