@@ -13,8 +13,11 @@ residual_of-x-requires c = record { constraint_rule = c.requires.rests.rule; sma
 pub rest_line-requires : goal.rest_line-requires
 rest_line-requires c = let small = pools_small _ c.requires.rests.rule in
     let x = c.share_of-share.ensures in
-    rw (c.residual_of-x.ensures, c.pools_of.ensures, x.0, x.1)
-    (rest_in _ _ _ _ c.requires.i_in_bounds c.if-r-eq-CONTINGENCY.false, (residual_small _ _ c.requires.rests.rule small, c.requires.rests.shared))
+    record {
+      i_in_bounds = rw (c.residual_of-x.ensures, c.pools_of.ensures, x.0, x.1) (rest_in _ _ _ _ c.requires.i_in_bounds c.if-r-eq-CONTINGENCY.false);
+      small_residual = rw (c.residual_of-x.ensures, c.pools_of.ensures) (residual_small _ _ c.requires.rests.rule small);
+      shared = rw (x.0, x.1) c.requires.rests.shared;
+    }
 
 pub returns : goal.returns
 returns c = let x = c.share_of-share.ensures in

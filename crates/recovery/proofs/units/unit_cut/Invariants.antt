@@ -1,7 +1,5 @@
 -- `recovery::units::unit_cut` meets its contract. The invariant, `Cutting`: the sum is what was cut off the constraint's rows so far. The measure is what is left. Assumes nothing.
 use Prim.Native.Nat.{◌-◌}
-use mir.Syntax.{w64}
-use mir.Val.{to_z}
 use Rattle.records.specs.Rows.{unit_row}
 use Rattle.recovery.proofs.UnitTurns.{Cutting}
 use Rattle.recovery.proofs.units.unit_cut.Given as goal
