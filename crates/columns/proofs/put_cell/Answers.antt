@@ -4,7 +4,7 @@ use Rattle.columns.proofs.put_cell.Goals as goal
 
 pub put_spelled-e-requires : goal.put_spelled-e-requires
 put_spelled-e-requires c = let e = c.of.ensures in
-record { x_bound = rw e (fits c.args.column c.args.x c.requires.column_bound.0 c.requires.column_bound.1); x_in_bounds = room_spelled c.args.column c.args.x e c.args.text.now _ c.requires.x_in_bounds }
+    record { x_bound = rw e (fits c.args.column c.args.x c.requires.column_bound.0 c.requires.column_bound.1); x_in_bounds = room_spelled c.args.column c.args.x e c.args.text.now _ c.requires.x_in_bounds }
 
 pub put_byte-requires : goal.put_byte-requires
 put_byte-requires c = room_end c.args.column c.args.x c.of.ensures c.requires.x_in_bounds c.put_spelled-e.ensures

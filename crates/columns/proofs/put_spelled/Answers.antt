@@ -15,7 +15,7 @@ returns-then-are_none c = rw (as_number c.args.f c.args.x (sym c.are_none.ensure
 pub put_letters-requires : goal.put_letters-requires
 put_letters-requires c = let w = c.word_of.ensures in
     let e = as_word c.args.f c.args.x (sym c.are_none.ensures ∙ c.if-are_none.false) in
-record { has = record { letters = refl; long = rw w.letters w.long; fits = w.fits }; w_in_bounds = rw w.letters (rw e at c.requires.x_in_bounds) }
+    record { has = record { letters = refl; long = rw w.letters w.long; fits = w.fits }; w_in_bounds = rw w.letters (rw e at c.requires.x_in_bounds) }
 
 pub returns : goal.returns
 returns c = let e = as_word c.args.f c.args.x (sym c.are_none.ensures ∙ c.if-are_none.false) in

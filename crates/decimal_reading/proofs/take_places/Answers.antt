@@ -1,10 +1,7 @@
 -- `decimal_reading::take_places` meets its contract. The invariant: sum is what the digits passed make, behind those of v. The measure is how many are left. Assumes nothing.
-use mathlib.Core.Path.{ap}
-use mathlib.Core.Bool.{not}
 use Prim.Native.Nat.{◌+◌, ◌-◌}
 use mathlib.Core.Path.{sym, ◌∙◌}
 use native.Mathlib.Omega.{arith}
-use borrow.Author.Tests.{not-false}
 use Rattle.decimal_reading.proofs.Taking.{seen, passed_none, passed_more, passed_fits}
 use Rattle.decimal_reading.proofs.take_places.Goals as goal
 
@@ -14,14 +11,14 @@ loop-i-init c = (passed_none, omega arith)
 pub with_digit-sum-requires : goal.with_digit-sum-requires
 with_digit-sum-requires c = (
       passed_fits c.args.decimals c.loop-i.invariant.0 c.loop-i.invariant.1 c.requires.decimals_bound,
-      sym c.is_digit.ensures ∙ not-false _ (ap not c.if-not-is_digit.false),
+      sym c.is_digit.ensures ∙ c.if-not-is_digit.false,
     )
 
 pub loop-i-preserved : goal.loop-i-preserved
 loop-i-preserved c = let wide = c.wide-x.ensures in
     (
       passed_more c.loop-i.invariant.0 wide
-          (seen c.args.text.now (c.args.at + c.loop-i.i) _ wide c.is_digit.ensures (not-false _ (ap not c.if-not-is_digit.false)))
+          (seen c.args.text.now (c.args.at + c.loop-i.i) _ wide c.is_digit.ensures c.if-not-is_digit.false)
           c.with_digit-sum.ensures,
       omega (arith, c.loop-i-test.true),
     )

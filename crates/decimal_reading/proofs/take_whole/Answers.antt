@@ -7,9 +7,7 @@ pub returns-then-w-at : goal.returns-then-w-at
 returns-then-w-at c = whole_nothing c.take_digits-w.ensures.decides c.if-w-at.true
 
 pub returns-then-spare_zero : goal.returns-then-spare_zero
-returns-then-spare_zero c = let sum = c.take_digits-w.ensures in
-    whole_spare sum.0 sum.1 c.if-w-at.false refl c.spare_zero.ensures c.if-spare_zero.true
+returns-then-spare_zero c = whole_spare c.take_digits-w.ensures.decides c.take_digits-w.ensures.next_value c.if-w-at.false refl c.spare_zero.ensures c.if-spare_zero.true
 
 pub returns : goal.returns
-returns c = let sum = c.take_digits-w.ensures in
-    whole_found sum.0 sum.1 c.if-w-at.false c.requires refl c.spare_zero.ensures c.if-spare_zero.false
+returns c = whole_found c.take_digits-w.ensures.decides c.take_digits-w.ensures.next_value c.if-w-at.false c.requires refl c.spare_zero.ensures c.if-spare_zero.false

@@ -9,7 +9,7 @@ use Rattle.unit_pass.proofs.Ahead.{exactly_more, exactly_no, exactly_all}
 use Rattle.unit_pass.proofs.units_hold.Goals as goal
 
 pub run-t-requires : goal.run-t-requires
-run-t-requires c = let pre = c.requires in let p = c.loop-j.invariant.1 in record { m_in_bounds = (pre.0.1.0, (pre.0.1.1, p.passed.high)); under = passed_under _ _ _ _ _ _ pre.1.0 c.loop-j-test.true c.constraint_row-r.ensures p.passed }
+run-t-requires c = let p = c.loop-j.invariant.1 in record { m_in_bounds = (c.requires.n_in_bounds.1.0, (c.requires.n_in_bounds.1.1, p.passed.high)); under = passed_under _ _ _ _ _ _ c.requires.rises c.loop-j-test.true c.constraint_row-r.ensures p.passed }
 
 pub returns-then-not-settles : goal.returns-then-not-settles
 returns-then-not-settles c = exactly_no _ _ _ _ c.requires.rises c.requires.by_index _ _ c.loop-j-test.true c.constraint_row-r.ensures c.loop-j.invariant.1 c.run-t.ensures c.settles.ensures (ap not c.if-not-settles.true)

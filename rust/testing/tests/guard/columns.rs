@@ -41,8 +41,8 @@ pub fn columns(repository: &Repository) -> Vec<Column> {
     columns.collect()
 }
 
-/// The decimals and the longest field of a form: `numberForm decimals least most`,
-/// `chargeForm decimals most`, which has a minus, or `wordForm words most`.
+/// The decimals and the longest field of a form: `number_form decimals least most`,
+/// `charge_form decimals most`, which has a minus, or `word_form words most`.
 fn measure(repository: &Repository, form: &str) -> Option<(usize, usize)> {
     let words: Vec<&str> = form.split_whitespace().collect();
     let number = |decimals: &str, most| {
@@ -51,12 +51,12 @@ fn measure(repository: &Repository, form: &str) -> Option<(usize, usize)> {
         Some((decimals, digits + usize::from(decimals > 0)))
     };
     match words[..] {
-        ["numberForm", decimals, _, most] => number(decimals, most),
-        ["chargeForm", decimals, most] => {
+        ["number_form", decimals, _, most] => number(decimals, most),
+        ["charge_form", decimals, most] => {
             let (decimals, longest) = number(decimals, most)?;
             Some((decimals, longest + 1))
         }
-        ["wordForm", kind, _] => {
+        ["word_form", kind, _] => {
             let words = words_of(repository, list_of(kind)?);
             Some((0, words.iter().map(String::len).max()?))
         }
@@ -79,9 +79,9 @@ fn digits(repository: &Repository, number: &str) -> Option<usize> {
 /// The list of the definitions that has a kind's words.
 fn list_of(kind: &str) -> Option<&'static str> {
     match kind {
-        "Service" => Some("restartName"),
-        "PaymentType" => Some("paymentTypes"),
-        "Region" => Some("regionNames"),
+        "Service" => Some("restart_name"),
+        "PaymentType" => Some("payment_types"),
+        "Region" => Some("region_names"),
         _ => None,
     }
 }

@@ -13,7 +13,7 @@ use fervolatro_testing::{statement, NmasRow};
 
 use crate::columns::{words_of, WORDS};
 use crate::edge::{comments_removed, HEADER};
-use crate::repository::{without_groups, Repository};
+use crate::repository::{behind, without_groups, Repository};
 
 /// What each constant's name begins with; it is left out here.
 pub const FRONT: &str = "FERVOLATRO_";
@@ -47,78 +47,81 @@ const PLACES: &[(&str, &str)] = &[
     ),
     (
         TABLE,
-        "refuse 5 {BOOK_HEADER_SIZE} {REGION_ENTRY_SIZE} (λ i. entryOk",
+        "refuse 5 {BOOK_HEADER_SIZE} {REGION_ENTRY_SIZE} (λ i. entry_ok",
     ),
-    (TABLE, "entryOk (B .entry i)) {REGION_ENTRIES}"),
+    (TABLE, "entry_ok (B.entry i)) {REGION_ENTRIES}"),
     (
         BOOK,
-        "unitsFrom h = 84 + h .constraints * {CONSTRAINT_SIZE}",
-    ),
-    (
-        BOOK,
-        "energiesFrom h = 84 + h .constraints * 40 + h .units * {UNIT_ROW_SIZE}",
+        "units_from h = 84 + h.constraints * {CONSTRAINT_SIZE}",
     ),
     (
         BOOK,
-        "+ h .energies * {ENERGY_ROW_SIZE} + h .contracts * {CONTRACT_SIZE}",
+        "energies_from h = 84 + h.constraints * 40 + h.units * {UNIT_ROW_SIZE}",
     ),
-    (BOOK, "leb (h .constraints) {MOST_CONSTRAINTS}"),
-    (BOOK, "leb (h .units) {MOST_UNIT_ROWS}"),
-    (BOOK, "leb (h .energies) {MOST_ENERGY_ROWS}"),
-    (BOOK, "leb (h .contracts) {MOST_CONTRACTS}"),
+    (
+        BOOK,
+        "+ h.energies * {ENERGY_ROW_SIZE} + h.contracts * {CONTRACT_SIZE}",
+    ),
+    (BOOK, "leb h.constraints {MOST_CONSTRAINTS}"),
+    (BOOK, "leb h.units {MOST_UNIT_ROWS}"),
+    (BOOK, "leb h.energies {MOST_ENERGY_ROWS}"),
+    (BOOK, "leb h.contracts {MOST_CONTRACTS}"),
     (
         READING,
-        "lineFrom i = {STATEMENT_HEADER_SIZE} + i * {LINE_SIZE}",
+        "line_from i = {STATEMENT_HEADER_SIZE} + i * {LINE_SIZE}",
     ),
-    (UNITS, "mostLines = {MOST_LINES}"),
-    (READING, "leb (h .lines) mostLines"),
-    (UNITS, "moneyLimit = {LIMIT}"),
-    (READING, "leb (natAbs z) moneyLimit"),
-    (RULES, "leb (r .cost) moneyLimit"),
-    (RULES, "leb (r .payment) moneyLimit"),
-    (DISPATCH, "id = u32At s (i * {DISPATCH_ROW_SIZE})"),
-    (UNITS, "priceLimit = {MOST_PRICE}"),
-    (DISPATCH, "leb (r .price) priceLimit"),
-    (DISPATCH, "enablementLimit = {MOST_ENABLEMENT}"),
-    (DISPATCH, "leb (r .enablement) enablementLimit"),
-    (DISPATCH, "productLimit = {MOST_PRODUCT}"),
-    (DISPATCH, "leb (productOf (dispatchRow s i)) productLimit"),
-    (DISPATCH, "(i + 1)) moneyLimit"),
+    (UNITS, "most_lines = {MOST_LINES}"),
+    (READING, "leb h.lines most_lines"),
+    (UNITS, "money_limit = {LIMIT}"),
+    (READING, "leb (nat_abs z) money_limit"),
+    (RULES, "leb r.cost money_limit"),
+    (RULES, "leb r.payment money_limit"),
+    (DISPATCH, "id = u32_at s (i * {DISPATCH_ROW_SIZE})"),
+    (UNITS, "price_limit = {MOST_PRICE}"),
+    (DISPATCH, "leb r.price price_limit"),
+    (DISPATCH, "enablement_limit = {MOST_ENABLEMENT}"),
+    (DISPATCH, "leb r.enablement enablement_limit"),
+    (DISPATCH, "product_limit = {MOST_PRODUCT}"),
+    (
+        DISPATCH,
+        "leb (product_of (dispatch_row s i)) product_limit",
+    ),
+    (DISPATCH, "(i + 1)) money_limit"),
     (
         ANSWERS,
-        "verdictAnswer Accepted = record { refusal = {NOT_REFUSED};",
+        "verdict_answer Accepted = record { refusal = {NOT_REFUSED};",
     ),
     (TABLE, "unless (leb 84 (length b)) {REFUSED_SHORT}"),
-    (TABLE, "unless (bookMarked b) {REFUSED_MARK}"),
-    (TABLE, "unless (inRange (headerOf b)) {REFUSED_RANGE}"),
+    (TABLE, "unless (book_marked b) {REFUSED_MARK}"),
+    (TABLE, "unless (in_range (header_of b)) {REFUSED_RANGE}"),
     (
         TABLE,
-        "unless (eqb (length b) (wholeLength (headerOf b))) {REFUSED_LENGTH}",
+        "unless (eqb (length b) (whole_length (header_of b))) {REFUSED_LENGTH}",
     ),
-    (TABLE, "refuse {REFUSED_FIELD} 84 40 (λ i. constraintOk"),
+    (TABLE, "refuse {REFUSED_FIELD} 84 40 (λ i. constraint_ok"),
     (
         TABLE,
-        "refuse {REFUSED_ORDER} 84 40 (risesBy constraintBelow",
+        "refuse {REFUSED_ORDER} 84 40 (rises_by constraint_below",
     ),
     (
         TABLE,
-        "refuse {REFUSED_NO_CONSTRAINT} (unitsFrom (B .header)) 20 (namedAt",
+        "refuse {REFUSED_NO_CONSTRAINT} (units_from B.header) 20 (named_at",
     ),
-    (TABLE, "refuse {REFUSED_FACTORS} 84 40 (factorsAt"),
-    (TABLE, "refuse {REFUSED_REGION_ENTRY} 24 12 (entryHasSums"),
+    (TABLE, "refuse {REFUSED_FACTORS} 84 40 (factors_at"),
+    (TABLE, "refuse {REFUSED_REGION_ENTRY} 24 12 (entry_has_sums"),
     (
         TABLE,
-        "refuse {REFUSED_ZERO_TOTAL} 84 40 (constraintDivides",
+        "refuse {REFUSED_ZERO_TOTAL} 84 40 (constraint_divides",
     ),
-    (TABLE, "check17 B l = atTest {REFUSED_NO_LOCKED} B (not"),
-    (TABLE, "check18 B l = atTest {REFUSED_LOCKED} B (locks"),
+    (TABLE, "check17 B l = at_test {REFUSED_NO_LOCKED} B (not"),
+    (TABLE, "check18 B l = at_test {REFUSED_LOCKED} B (locks"),
     (
         SETTLE,
         "cond (unnamed rows locked) (refuses {REFUSED_NO_ACCOUNT} 0)",
     ),
     (
         SETTLE,
-        "cond (anyOver (linesOf public rows locked)) (refuses {REFUSED_LIMIT} 0)",
+        "cond (any_over (lines_of public rows locked)) (refuses {REFUSED_LIMIT} 0)",
     ),
     (LENT, "(Length (length xs)) (Refused {REFUSED_BUFFER} 0)"),
     (CALLS, "(heading.Refused {REFUSED_NO_STATEMENT} 0)"),
@@ -126,65 +129,65 @@ const PLACES: &[(&str, &str)] = &[
     (BALANCE, "balanced.Refused {REFUSED_PAST_END} 0"),
     (
         CUTOFFS,
-        "stageAt [] index = cutoff.Refused {REFUSED_PAST_END} 0",
+        "stage_at [] index = cutoff.Refused {REFUSED_PAST_END} 0",
     ),
     (
         CUTOFFS,
-        "cutFor B L past index = cutoff.Refused {REFUSED_PAST_END} 0",
+        "cut_for B L past index = cutoff.Refused {REFUSED_PAST_END} 0",
     ),
     (
         DISPATCH,
-        "atRecord {REFUSED_DISPATCH_ROW} 0 {DISPATCH_ROW_SIZE} (firstBad",
+        "at_record {REFUSED_DISPATCH_ROW} 0 {DISPATCH_ROW_SIZE} (first_bad",
     ),
     (
         NMAS,
-        "rowsRead (part rs t) = rows.Refused {REFUSED_NMAS_LINE} (length rs)",
+        "rows_read (part rs t) = rows.Refused {REFUSED_NMAS_LINE} (length rs)",
     ),
     (
         NMAS,
-        "rowRead (part rs t) index = row.Refused {REFUSED_NMAS_LINE} (length rs)",
+        "row_read (part rs t) index = row.Refused {REFUSED_NMAS_LINE} (length rs)",
     ),
     (
         NMAS,
-        "numberedRow (past n) = row.Refused {REFUSED_PAST_END} 0",
+        "numbered_row (past n) = row.Refused {REFUSED_PAST_END} 0",
     ),
     (
         NMAS_FILE,
-        "cond (leb 3 paymentType) (refuses {REFUSED_PAST_END} 0)",
+        "cond (leb 3 payment_type) (refuses {REFUSED_PAST_END} 0)",
     ),
     (NMAS_LENGTH, "gives xs → length xs ≤ {LARGEST_NMAS}"),
     (
         LINES,
-        "cond (raises (r .service)) {PART_CONTINGENCY_ASOE} {PART_CONTINGENCY_ACE}",
+        "cond (raises r.service) {PART_CONTINGENCY_ASOE} {PART_CONTINGENCY_ACE}",
     ),
-    (LINES, "fppLine r p q = unitLine r {PART_UNIT_FPP} "),
-    (LINES, "usedLine r p q = unitLine r {PART_UNIT_USED} "),
-    (LINES, "unusedLine r p q = unitLine r {PART_UNIT_UNUSED} "),
+    (LINES, "fpp_line r p q = unit_line r {PART_UNIT_FPP} "),
+    (LINES, "used_line r p q = unit_line r {PART_UNIT_USED} "),
+    (LINES, "unused_line r p q = unit_line r {PART_UNIT_UNUSED} "),
     (
         LINES,
-        "fppRest r x te ate = sharedLine (r .id) {PART_RESIDUAL_FPP} ",
-    ),
-    (
-        LINES,
-        "usedRest r x te ate = sharedLine (r .id) {PART_RESIDUAL_USED} ",
+        "fpp_rest r x te ate = shared_line r.id {PART_RESIDUAL_FPP} ",
     ),
     (
         LINES,
-        "unusedRest r x te ate = sharedLine (r .id) {PART_RESIDUAL_UNUSED} ",
+        "used_rest r x te ate = shared_line r.id {PART_RESIDUAL_USED} ",
     ),
     (
         LINES,
-        "aceLine id g x own total = sharedLine id {PART_CONTRACT_ACE} ",
+        "unused_rest r x te ate = shared_line r.id {PART_RESIDUAL_UNUSED} ",
     ),
     (
         LINES,
-        "asoeLine id g x own total = sharedLine id {PART_CONTRACT_ASOE} ",
+        "ace_line id g x own total = shared_line id {PART_CONTRACT_ACE} ",
+    ),
+    (
+        LINES,
+        "asoe_line id g x own total = shared_line id {PART_CONTRACT_ASOE} ",
     ),
     (KINDS, "(eqb number {MODE_CONTINGENCY}) Contingency"),
     (KINDS, "(eqb number {MODE_FACTORED}) (Factored "),
     (KINDS, "(eqb number {MODE_DEFAULT}) Default "),
-    (RULES, "leb {CONTRACT_ORDINARY} (r .kind)"),
-    (RULES, "leb (r .kind) {CONTRACT_TEST}"),
+    (RULES, "leb {CONTRACT_ORDINARY} r.kind"),
+    (RULES, "leb r.kind {CONTRACT_TEST}"),
 ];
 
 /// A constant of the header: its name without the front, its value as it stands there,
@@ -280,7 +283,7 @@ fn why_not_there(
 /// Whether the words stand in a text, and a number at their end ends there.
 fn stands_in(text: &str, words: &str) -> bool {
     let is_digit = |letter: char| letter.is_ascii_digit();
-    let mut rests = text.split(words).skip(1);
+    let mut rests = behind(text, words);
     rests.any(|rest| !words.ends_with(is_digit) || !rest.starts_with(is_digit))
 }
 
@@ -307,10 +310,10 @@ fn places(constants: &[Constant]) -> Vec<(&'static str, String)> {
         names.collect::<Vec<String>>().join(between)
     };
     let [services, regions] = ["SERVICE_", "REGION_"].map(|front| list(front, " ∷ "));
-    places.push((KINDS, format!("serviceNumbers = {services} ∷ []")));
-    places.push((KINDS, format!("regionNumbers = {regions} ∷ []")));
+    places.push((KINDS, format!("service_numbers = {services} ∷ []")));
+    places.push((KINDS, format!("region_numbers = {regions} ∷ []")));
     let bits = list("REGION_BIT_", " || eqb m ");
-    places.push((READING, format!("oneBit m = eqb m {bits}\n")));
+    places.push((READING, format!("one_bit m = eqb m {bits}\n")));
     places
 }
 
@@ -328,16 +331,16 @@ fn group_of<'a>(constants: &'a [Constant], front: &str) -> Vec<&'a str> {
 /// The payment types, which the definitions list by their words: the number of each is
 /// its place there.
 fn payment_types(repository: &Repository) -> impl Iterator<Item = (String, i64, &'static str)> {
-    let words = words_of(repository, "paymentTypes").into_iter();
+    let words = words_of(repository, "payment_types").into_iter();
     let named = words.map(|word| format!("PAYMENT_TYPE_{word}"));
     named.zip(0..).map(|(name, number)| (name, number, WORDS))
 }
 
-/// The stages of rounding, each of which a definition numbers: `stageNumber Line = 1`.
+/// The stages of rounding, each of which a definition numbers: `stage_number stage.Line = 1`.
 fn stages(repository: &Repository) -> impl Iterator<Item = (String, i64, &'static str)> + use<'_> {
     let lines = repository.text(ANSWERS).lines();
     lines.filter_map(|line| {
-        let (case, number) = line.strip_prefix("stageNumber ")?.split_once(" = ")?;
+        let (case, number) = line.strip_prefix("stage_number ")?.split_once(" = ")?;
         let name = case.trim_matches(['(', ')']).rsplit('.').next()?;
         let name = format!("STAGE_{}", name.to_uppercase());
         Some((name, number.trim().parse().ok()?, ANSWERS))

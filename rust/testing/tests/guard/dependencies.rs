@@ -12,10 +12,8 @@ const MET_THROUGH_OTHERS: [(&str, &str); 4] = [
 ];
 
 pub fn unused(repository: &Repository) -> Vec<String> {
-    let lines = repository.text("crates.txt").lines();
-    let listed = lines.filter(|line| !line.starts_with('#'));
     let mut complaints = Vec::new();
-    for (name, uses) in listed.filter_map(|line| line.split_once(':')) {
+    for (name, uses) in repository.listed() {
         let texts = texts_of(repository, name);
         for used in uses.split_whitespace() {
             let is_named = texts.iter().any(|text| names(text, used));
@@ -39,9 +37,9 @@ fn texts_of<'a>(repository: &'a Repository, name: &str) -> Vec<&'a str> {
     texts
 }
 
-/// Whether a text names a crate, outside comments: `Rattle·NAME.`, `NAME::` or `use NAME;`.
+/// Whether a text names a crate, outside comments: `Rattle.NAME.`, `NAME::` or `use NAME;`.
 fn names(text: &str, name: &str) -> bool {
-    let facade = format!("Rattle·{name}.");
+    let facade = format!("Rattle.{name}.");
     let path = format!("{name}::");
     let import = format!("use {name};");
     text.lines().any(|line| {

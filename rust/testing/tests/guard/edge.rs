@@ -1,22 +1,21 @@
-//! Guard of the edge's shape: the calls of `crates/fervolatro` and their answers, the
+//! Guard of the edge's shape: the calls that are made from C and their answers, the
 //! structs of `crates/answers`, are those of the header, parameter by parameter and field by field, in order and width. The C
 //! tests see the values; this sees what no value shows, such as a refusal's number of
 //! 32 bits with an upper half that happens to be 0.
+
+use std::collections::BTreeSet;
 
 use crate::rattle::{all_functions, Function};
 use crate::repository::Repository;
 
 pub const HEADER: &str = "include/fervolatro.h";
-pub const CODE: &str = "crates/fervolatro/src/lib.rt";
 pub const ANSWERS: &str = "crates/answers/src/lib.rt";
 
 /// Calls and answers that the header has otherwise than the code.
 pub fn unlike_the_header(repository: &Repository) -> Vec<String> {
     let header = without_comments(repository.text(HEADER));
     let prototypes = prototypes(&header);
-    let functions = all_functions(repository).into_iter();
-    let calls = functions.filter(|function| function.file == CODE && function.is_public);
-    let calls: Vec<Function> = calls.collect();
+    let calls = calls(repository);
     let mut complaints = Vec::new();
     for prototype in &prototypes {
         match calls.iter().find(|call| call.name() == prototype.name) {
@@ -24,7 +23,7 @@ pub fn unlike_the_header(repository: &Repository) -> Vec<String> {
                 let why = why_unlike(&header, prototype, repository.text(ANSWERS), call);
                 complaints.extend(why);
             }
-            None => complaints.push(format!("{CODE} has no call {}", prototype.name)),
+            None => complaints.push(format!("the code has no call {}", prototype.name)),
         }
     }
     for call in &calls {
@@ -33,6 +32,21 @@ pub fn unlike_the_header(repository: &Repository) -> Vec<String> {
         }
     }
     complaints
+}
+
+/// The functions that C calls, and all others that are public beside one in its file.
+fn calls(repository: &Repository) -> Vec<Function> {
+    let files = code(repository);
+    let functions = all_functions(repository).into_iter();
+    let calls = functions.filter(|function| function.is_public && files.contains(&function.file));
+    calls.collect()
+}
+
+/// The files that have functions that C calls.
+pub fn code(repository: &Repository) -> BTreeSet<String> {
+    let functions = all_functions(repository).into_iter();
+    let exported = functions.filter(|function| function.is_extern);
+    exported.map(|function| function.file).collect()
 }
 
 /// The C tests that make every call, and how each of them names one.
@@ -151,8 +165,15 @@ fn fields_in_header<'a>(header: &'a str, name: &str) -> Vec<(&'a str, &'a str)> 
         .collect()
 }
 
+/// The fields of a struct that is laid out as C's are: `#[repr(C)]` stands among what is
+/// said right above it.
 fn fields_in_code<'a>(code: &'a str, name: &str) -> Vec<(&'a str, &'a str)> {
-    let body = code.split_once(&format!("#[repr(C)]\npub struct {name} {{"));
+    let body = code.split_once(&format!("\npub struct {name} {{"));
+    let body = body.filter(|(before, _)| {
+        let above = before.lines().rev();
+        let mut above = above.take_while(|line| line.starts_with("#["));
+        above.any(|line| line == "#[repr(C)]")
+    });
     let body = body.and_then(|(_, after)| after.split_once('}'));
     let fields = body.map_or("", |(body, _)| body).split(',');
     let fields = fields.filter_map(|field| field.trim().strip_prefix("pub ")?.split_once(": "));

@@ -7,7 +7,7 @@ use std::collections::BTreeMap;
 use crate::columns::{columns, COLUMNS, TITLE};
 use crate::constants::{constants, Constant, FRONT};
 use crate::page::{code_spans, rows, Row};
-use crate::repository::{without_groups, Repository};
+use crate::repository::{behind, without_groups, Repository};
 
 pub const PAGE: &str = "docs/BOOK.md";
 pub const HEADER: &str = "include/fervolatro.h";
@@ -55,7 +55,7 @@ const RECORDS: [Record; 9] = [
         title: "Line",
         file: READING,
         list: "s",
-        front: "lineFrom i",
+        front: "line_from i",
         size_of: None,
     },
     Record {
@@ -103,12 +103,12 @@ impl Record {
     /// Whether the definitions read so many bytes at this offset.
     fn is_read(&self, definitions: &str, offset: usize, bytes: usize) -> bool {
         let readers: &[&str] = match bytes {
-            1 => &["byteAt"],
-            2 => &["u16At"],
+            1 => &["byte_at"],
+            2 => &["u16_at"],
             // Three letters are compared one by one.
-            3 => &["u24At", "byteAt"],
-            4 => &["u32At"],
-            8 => &["u64At", "i64At"],
+            3 => &["u24_at", "byte_at"],
+            4 => &["u32_at"],
+            8 => &["u64_at", "i64_at"],
             _ => &[],
         };
         let place = self.place(offset);
@@ -119,8 +119,8 @@ impl Record {
 
 /// Whether a text has these words, and no digit goes on where they end.
 fn has_whole(text: &str, words: &str) -> bool {
-    let mut found = text.match_indices(words);
-    found.any(|(at, _)| !text[at + words.len()..].starts_with(|next: char| next.is_ascii_digit()))
+    let mut rests = behind(text, words);
+    rests.any(|rest| !rest.starts_with(|next: char| next.is_ascii_digit()))
 }
 
 /// The numbers of a cell, without their commas.
@@ -267,22 +267,22 @@ pub fn worked_book(repository: &Repository) -> Vec<u8> {
 /// The number that stands behind these words in a file.
 fn number_after(repository: &Repository, path: &str, words: &str) -> Option<usize> {
     let text = without_groups(repository.text(path));
-    let (_, rest) = text.split_once(words)?;
+    let rest = behind(&text, words).next()?;
     let mut digits = rest.trim_start().split(|next: char| !next.is_ascii_digit());
     digits.next()?.parse().ok()
 }
 
 /// The limits that the definitions have, by the page's words for them.
 fn limits(repository: &Repository) -> Option<Vec<(&'static str, usize)>> {
-    let count = |field: &str| number_after(repository, BOOK, &format!("(h .{field})"));
+    let count = |field: &str| number_after(repository, BOOK, &format!("leb h.{field} "));
     let counts = ["constraints", "units", "energies", "contracts"].map(count);
     let [constraints, units, energies, contracts] = counts;
     let (constraints, units) = (constraints?, units?);
     let (energies, contracts) = (energies?, contracts?);
     let shortest = number_after(repository, TABLE, "unless (leb ")?;
-    let lines = number_after(repository, UNITS, "mostLines = ")?;
-    let header = number_after(repository, READING, "lineFrom i = ")?;
-    let amount = number_after(repository, UNITS, "moneyLimit = ")?;
+    let lines = number_after(repository, UNITS, "most_lines = ")?;
+    let header = number_after(repository, READING, "line_from i = ")?;
+    let amount = number_after(repository, UNITS, "money_limit = ")?;
     let rows = constraints * 40 + units * 20 + energies * 24 + contracts * 36;
     let mut limits = vec![
         ("smallest book, bytes", shortest),
@@ -307,15 +307,15 @@ fn limits(repository: &Repository) -> Option<Vec<(&'static str, usize)>> {
 fn dispatch_limits(repository: &Repository) -> Option<[(&'static str, usize); 4]> {
     let limit = |file, words| number_after(repository, file, words);
     Some([
-        ("dispatch row, bytes", limit(DISPATCH, "atRecord 16 0 ")?),
-        ("price of a dispatch row", limit(UNITS, "priceLimit = ")?),
+        ("dispatch row, bytes", limit(DISPATCH, "at_record 16 0 ")?),
+        ("price of a dispatch row", limit(UNITS, "price_limit = ")?),
         (
             "enablement of a dispatch row",
-            limit(DISPATCH, "enablementLimit = ")?,
+            limit(DISPATCH, "enablement_limit = ")?,
         ),
         (
             "price times enablement of a dispatch row",
-            limit(DISPATCH, "productLimit = ")?,
+            limit(DISPATCH, "product_limit = ")?,
         ),
     ])
 }
@@ -323,7 +323,7 @@ fn dispatch_limits(repository: &Repository) -> Option<[(&'static str, usize); 4]
 /// A row for each contract and each region, every field of it as long as it can be, and a
 /// byte behind each.
 fn file_limits(repository: &Repository, contracts: usize) -> Option<[(&'static str, usize); 3]> {
-    let regions = number_after(repository, TABLE, "entryOk (B .entry i))")?;
+    let regions = number_after(repository, TABLE, "entry_ok (B.entry i))")?;
     let rows = contracts * regions;
     let line: usize = columns(repository)
         .iter()

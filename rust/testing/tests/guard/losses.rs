@@ -11,7 +11,7 @@ use crate::edits;
 use crate::layout;
 use crate::page;
 use crate::promises;
-use crate::rattle::{public_functions, Function};
+use crate::rattle::{all_functions, public_functions, Function};
 use crate::repository::Repository;
 use crate::rules;
 use crate::stack;
@@ -117,7 +117,7 @@ fn notices_of_each(guard: Guard, change: impl Fn(&str) -> Option<String>) {
 }
 
 /// The guards' own reading of the code misses none: each line that begins a public
-/// function is one.
+/// function is one, and each that begins a clause is one of a function's.
 #[test]
 fn every_public_function_is_read() {
     let repository = Repository::read();
@@ -125,6 +125,16 @@ fn every_public_function_is_read() {
     let lines = code.flat_map(|(_, text)| text.lines()).map(str::trim_start);
     let starts = lines.filter(|line| line.starts_with("pub ") && line.contains("fn "));
     assert_eq!(public_functions(&repository).len(), starts.count());
+    let begins_a_clause = |line: &&str| {
+        let words = ["requires", "ensures"];
+        words.contains(&line.split(' ').next().unwrap_or(line))
+    };
+    let code = repository.between("crates/", ".rt");
+    let lines = code.flat_map(|(_, text)| text.lines()).map(str::trim_start);
+    let clauses = lines.filter(begins_a_clause).count();
+    let functions = all_functions(&repository).into_iter();
+    let read = functions.flat_map(|function| function.clauses);
+    assert_eq!(read.count(), clauses);
 }
 
 #[test]
@@ -155,21 +165,21 @@ fn the_balance_without_its_promise_is_noticed() {
 fn a_promise_that_says_nothing_is_noticed() {
     let repository = Repository::read();
     let empty = [
-        "r ≡ r",
-        "(r ≡ r)",
-        "r ≡ (r)",
+        "result ≡ result",
+        "(result ≡ result)",
+        "result ≡ (result)",
         "⊤",
         "Unit",
         "0 ≡ 0",
-        "(0 ≡ 1 → r ≡ r)",
-        "(r ≡ 0) × (r ≡ r)",
+        "0 ≡ 1 → result ≡ result",
+        "(result ≡ 0) × (result ≡ result)",
         "0 ≡ 1",
-        "now (book .entry) ≡ now (book .exit)",
+        "book.old ≡ book.new",
     ];
     for function in public_functions(&repository) {
         for promise in empty.iter().filter(|_| function.signature.contains("->")) {
             let mut changed = repository.clone();
-            let line = format!("    ensures {{ λ r. ⌜ {promise} ⌝ }}");
+            let line = format!("    ensures {{ {promise} }}");
             change_promise(&mut changed, &function, |_| Some(line.clone()));
             let complaints = promises::missing_of(&again(&changed, &function));
             assert!(!complaints.is_empty(), "{promise} of {}", function.path);
@@ -192,7 +202,10 @@ fn a_buffer_that_no_promise_speaks_of_is_noticed() {
     let functions = public_functions(&repository).into_iter();
     for function in functions.filter(|function| function.signature.contains("&mut")) {
         watch.notices(&function.path, |changed| {
-            let forget = |line: &str| Some(line.replace(" .exit)", " .entry)"));
+            let forget = |line: &str| {
+                let line = line.replace(".new", ".old");
+                Some(line.replace(".exit", ".entry"))
+            };
             change_promise(changed, &function, forget);
         });
     }
@@ -201,7 +214,7 @@ fn a_buffer_that_no_promise_speaks_of_is_noticed() {
 #[test]
 fn a_changed_promise_is_noticed() {
     notices_of_each(promises::differing_contracts, |line| {
-        Some(line.replace("⌜ ", "⌜ 0 ≡ 1 → "))
+        Some(line.replacen("{ ", "{ 0 ≡ 1 → ", 1))
     });
 }
 
@@ -209,7 +222,7 @@ fn a_changed_promise_is_noticed() {
 #[test]
 fn a_requires_more_is_noticed() {
     notices_of_each(promises::differing_contracts, |line| {
-        Some(format!("    requires {{ ⌜ 0 ≡ 1 ⌝ }}\n{line}"))
+        Some(format!("    requires never {{ 0 ≡ 1 }}\n{line}"))
     });
 }
 
@@ -247,6 +260,14 @@ fn on_the_page(old: &str, new: &str) -> impl Fn(&mut Repository) {
     move |changed| replace(changed, promises::PAGE, &old, &new)
 }
 
+/// What a crate's line of `crates.txt` begins with, and the end of the line before it.
+fn line_of(repository: &Repository, name: &str) -> String {
+    let fronts = [":", " staticlib:"].map(|end| format!("\n{name}{end}"));
+    let mut fronts = fronts.into_iter();
+    let front = fronts.find(|front| repository.text("crates.txt").contains(front));
+    front.expect("each crate has a line")
+}
+
 #[test]
 fn a_heading_that_is_lost_is_noticed() {
     let repository = Repository::read();
@@ -267,9 +288,8 @@ fn a_heading_that_is_lost_is_noticed() {
             on_the_page(&heading, &unsaid),
         );
         watch.notices("newcrate", |changed| {
-            let line = format!("\n{name}:");
-            let lines = format!("\nnewcrate:\n{name}:");
-            replace(changed, "crates.txt", &line, &lines);
+            let line = line_of(&repository, name);
+            replace(changed, "crates.txt", &line, &format!("\nnewcrate:{line}"));
         });
     }
     watch.notices("sharing where walk", |changed| {
@@ -330,8 +350,9 @@ fn a_function_that_the_page_no_longer_names_is_noticed() {
     let watch = Watch::over(&repository, promises::functions_unnamed);
     for item in promises::function_items(&repository) {
         for name in promises::names_in(&item) {
+            // What it says may begin with a definition of the same name.
             let front = format!("\n- {}: ", item.front);
-            watch.notices(&name, on_the_page(&front, "\n- "));
+            watch.notices(&name, on_the_page(&front, "\n- It is "));
             let heading = format!("\n## {}\n", item.heading);
             let other = on_the_page(&heading, "\n## another\n");
             watch.notices(&format!("{name} under another"), other);
@@ -536,7 +557,7 @@ fn a_picture_without_a_crate_is_noticed() {
             replace(changed, stack::PAGE, &line, "\n    crates/nothing ");
         });
         watch.notices("newcrate 0 times", |changed| {
-            let line = format!("\n{name}:");
+            let line = line_of(&repository, name);
             replace(changed, "crates.txt", &line, &format!("\nnewcrate:{line}"));
         });
     }
@@ -569,9 +590,9 @@ fn demands() -> Repository {
     let mut demands = repository_of(&[laws, ("README.md", head)]);
     for demand in 1..=3 {
         let file = format!("crates/demands/proofs/Demand{demand}.antt");
-        let row = format!("| {demand}, in words | `theorem-{demand}` | `{file}` |\n");
+        let row = format!("| {demand}, in words | `theorem_{demand}` | `{file}` |\n");
         append(&mut demands, "README.md", &row);
-        let text = format!("pub theorem-{demand} : Demand{demand}\ntheorem-{demand} = refl\n");
+        let text = format!("pub theorem_{demand} : Demand{demand}\ntheorem_{demand} = refl\n");
         demands.files.insert(file, Rc::from(text));
     }
     demands
@@ -606,9 +627,9 @@ fn a_theorem_that_readme_does_not_name_is_noticed() {
             let front = format!("| {demand}, in words");
             replace(changed, "README.md", &front, "| in words");
         });
-        watch.notices("another-one", |changed| {
+        watch.notices("another_one", |changed| {
             let file = format!("crates/demands/proofs/Demand{demand}.antt");
-            append(changed, &file, "pub another-one : Another\n");
+            append(changed, &file, "pub another_one : Another\n");
         });
     }
 }
@@ -644,14 +665,14 @@ fn a_file_that_a_page_cites_and_is_gone_is_noticed() {
 
 #[test]
 fn a_definition_that_a_page_cites_and_is_gone_is_noticed() {
-    let page = "The law `two-is-two` (`crates/low/proofs/Low.antt`) says it.";
+    let page = "The law `two_is_two` (`crates/low/proofs/Low.antt`) says it.";
     let file = "crates/low/proofs/Low.antt";
-    let text = "  pub two-is-two : 2 ≡ 2\n  two-is-two = refl\n";
+    let text = "  pub two_is_two : 2 ≡ 2\n  two_is_two = refl\n";
     let repository = repository_of(&[("page.md", page), (file, text)]);
     let guard: Guard = |repository| theorems::undefined(repository, "page.md");
     assert_quiet(guard, &repository);
-    Watch::over(&repository, guard).notices("two-is-two", |changed| {
-        replace(changed, file, "pub two-is-two :", "pub two-is-three :");
+    Watch::over(&repository, guard).notices("two_is_two", |changed| {
+        replace(changed, file, "pub two_is_two :", "pub two_is_three :");
     });
 }
 
@@ -663,7 +684,8 @@ fn an_edge_of_another_shape_is_noticed() {
     let verdict = "pub struct VerdictAnswer {\n    pub refusal: u64,\n    pub place: u64,\n";
     let exchanged = "pub struct VerdictAnswer {\n    pub place: u64,\n    pub refusal: u64,\n";
     let narrow = "pub struct VerdictAnswer {\n    pub refusal: u32,\n    pub place: u64,\n";
-    let free = format!("#[repr(C)]\n{verdict}");
+    let derived = format!("#[derive(Clone, Copy)]\n{verdict}");
+    let free = format!("#[repr(C)]\n{derived}");
     let account = "    account: u32,\n    buffer: &mut [u8],\n";
     let behind = "    buffer: &mut [u8],\n    account: u32,\n";
     let both = "fn fervolatro_check<'a>(book: &'a [u8], locked: &'a [u8])";
@@ -695,10 +717,16 @@ fn an_edge_of_another_shape_is_noticed() {
             "fervolatro_rewrite",
         ),
     ];
+    let files = edge::code(&repository);
+    let code = files.first().expect("C has something to call");
     for (old, new, about) in changes {
-        watch.notices(about, |changed| replace(changed, edge::CODE, old, new));
+        watch.notices(about, |changed| replace(changed, code, old, new));
     }
-    for (old, new) in [(verdict, exchanged), (verdict, narrow), (&free, verdict)] {
+    watch.notices("no call fervolatro_other", |changed| {
+        let other = "\npub extern \"C\" fn fervolatro_other() -> u64 {\n    0\n}\n";
+        append(changed, "crates/calendar/src/lib.rt", other);
+    });
+    for (old, new) in [(verdict, exchanged), (verdict, narrow), (&free, &derived)] {
         let change = |changed: &mut _| replace(changed, edge::ANSWERS, old, new);
         watch.notices("fervolatro_check", change);
     }
@@ -833,16 +861,16 @@ fn a_sentence_of_the_rules_that_is_lost_is_noticed() {
 fn a_definition_of_the_guide_without_a_rule_is_noticed() {
     let repository = Repository::read();
     let watch = Watch::over(&repository, rules::of_no_rule);
-    watch.notices("anotherLine", |changed| {
+    watch.notices("another_line", |changed| {
         append(
             changed,
             rules::GUIDE_LINES,
-            "abbrev pub anotherLine : Line\n",
+            "abbrev pub another_line : Line\n",
         );
     });
-    watch.notices("consumedHalf", |changed| {
+    watch.notices("consumed_half", |changed| {
         rewrite(changed, rules::PAGE, |text| {
-            text.replace("`consumedHalf`", "`sentHalf`")
+            text.replace("`consumed_half`", "`sent_half`")
         });
     });
 }
@@ -908,7 +936,12 @@ fn a_field_of_a_file_that_is_another_is_noticed() {
             "factor             4\n",
             "RBF",
         ),
-        (columns::COLUMNS, "numberForm 6 1", "numberForm 4 1", "RBF"),
+        (
+            columns::COLUMNS,
+            "number_form 6 1",
+            "number_form 4 1",
+            "RBF",
+        ),
     ] {
         watch.notices(about, |changed| replace(changed, path, old, new));
     }
@@ -1005,20 +1038,20 @@ fn a_limit_that_is_off_is_noticed() {
     let changes = [
         (
             "crates/book/specs/Header.antt",
-            "(h .units) 600",
-            "(h .units) 601",
+            "h.units 600",
+            "h.units 601",
             "unit rows",
         ),
         (
             "crates/ground/specs/Units.antt",
-            "mostLines = 2152",
-            "mostLines = 2153",
+            "most_lines = 2152",
+            "most_lines = 2153",
             "longest",
         ),
         (
             columns::COLUMNS,
-            "numberForm 0 1 99  --",
-            "numberForm 0 1 100  --",
+            "number_form 0 1 99  --",
+            "number_form 0 1 100  --",
             "line of a reconciliation file",
         ),
         (layout::HEADER, "51,672", "51,673", "51,673"),

@@ -3,7 +3,7 @@
 //! word, and that an item there names the function.
 
 use crate::page::{code_spans, headings, items, Item};
-use crate::rattle::{public_functions, Function};
+use crate::rattle::{is_word_letter, public_functions, Function};
 use crate::repository::Repository;
 pub use crate::word_for_word::PAGE;
 use crate::word_for_word::{entry, renewed};
@@ -29,8 +29,9 @@ pub fn missing_of(function: &Function) -> Vec<String> {
         missing.push(format!("{path} promises nothing of its result"));
     }
     for name in lent_to_write(&function.signature) {
-        let exit = format!("({name} .exit)");
-        if !promises.iter().any(|promise| promise.body.contains(&exit)) {
+        let held = [format!("{name}.new"), format!("{name}.exit")];
+        let speaks = |promise: &Promise| held.iter().any(|held| promise.names(held));
+        if !promises.iter().any(speaks) {
             missing.push(format!(
                 "{path} promises nothing of what `{name}` then holds"
             ));
@@ -48,26 +49,31 @@ fn lent_to_write(signature: &str) -> Vec<&str> {
     lent.map(|(name, _)| name).collect()
 }
 
-/// `ensures { λ result. ⌜ body ⌝ }`.
+/// `ensures { body }`, or `ensures name { body }`.
 struct Promise<'a> {
-    result: &'a str,
     body: &'a str,
 }
 
 impl<'a> Promise<'a> {
     fn of(clause: &'a str) -> Self {
-        let (front, body) = clause.split_once('⌜').unwrap_or(("", clause));
-        let body = body.rsplit_once('⌝').map_or(body, |(body, _)| body);
-        let result = front.split_once('λ').map_or("", |(_, result)| result);
-        Promise {
-            result: result.trim().trim_end_matches('.'),
-            body: body.trim(),
-        }
+        let body = clause.split_once('{').map_or(clause, |(_, body)| body);
+        let body = body.rsplit_once('}').map_or(body, |(body, _)| body);
+        Promise { body: body.trim() }
     }
 
     fn names_result(&self) -> bool {
-        let words = self.body.split([' ', '(', ')']);
-        self.result != "_" && words.into_iter().any(|word| word == self.result)
+        self.names("result")
+    }
+
+    /// Whether a name stands in it by itself: no other name's part, and no field of another.
+    fn names(&self, name: &str) -> bool {
+        let is_of_name = |letter: char| is_word_letter(letter) || letter == '\'';
+        let mut found = self.body.match_indices(name);
+        found.any(|(at, _)| {
+            let (before, after) = (&self.body[..at], &self.body[at + name.len()..]);
+            !before.ends_with(|letter| is_of_name(letter) || letter == '.')
+                && !after.starts_with(is_of_name)
+        })
     }
 
     fn says_nothing(&self) -> bool {

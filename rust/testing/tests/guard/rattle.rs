@@ -10,9 +10,12 @@ pub struct Function {
     pub path: String,
     pub file: String,
     pub is_public: bool,
+    /// Whether C calls it.
+    pub is_extern: bool,
     /// Parameters and result, white space made single.
     pub signature: String,
-    /// Each `requires { .. }` and `ensures { .. }`, white space made single.
+    /// Each `requires { .. }` and `ensures { .. }`, with its name where it has one, white
+    /// space made single.
     pub clauses: Vec<String>,
     /// The first and the last line, counted from 1.
     pub lines: (usize, usize),
@@ -90,7 +93,7 @@ impl Token<'_> {
     }
 }
 
-fn is_word_letter(letter: char) -> bool {
+pub fn is_word_letter(letter: char) -> bool {
     letter.is_alphanumeric() || letter == '_'
 }
 
@@ -138,7 +141,9 @@ impl Reader<'_> {
         while next < self.tokens.len() && !self.is(next, "{") && !self.is(next, ";") {
             if self.is(next, "requires") || self.is(next, "ensures") {
                 signature_end.get_or_insert(next);
-                let end = closing(self.tokens, next + 1);
+                // The clause's name stands before its brace.
+                let is_named = !self.is(next + 1, "{");
+                let end = closing(self.tokens, next + 1 + usize::from(is_named));
                 clauses.push(self.between(next, end + 1));
                 next = end;
             }
@@ -150,6 +155,7 @@ impl Reader<'_> {
             path: path_of(self.file, owner, name.text),
             file: self.file.to_owned(),
             is_public,
+            is_extern: (start..at).any(|at| self.is(at, "extern")),
             signature: on_one_line(&self.between(open, signature_end.unwrap_or(next))),
             clauses,
             lines: (self.line(start), self.line(end)),
@@ -423,9 +429,10 @@ mod tests {
 impl<'a> Kind<'a> {
     // The numbers.
     pub fn numbers(self) -> [u8; 3]
-        requires { ⌜ mod' 1 ≡ 1 ⌝ } // why
-        ensures { λ r. ⌜
-            r ≡ record { first = 1 } ⌝ }
+        requires { mod' 1 ≡ 1 } // why
+        ensures numbered {
+            result ≡ record { first = 1 } }
+        ensures small { result.first ≤ 9 }
     {
         let brace = b\"} \\\" pub fn in_a_string() {\";
         [brace[0], '}' as u8, helper(brace)]
@@ -436,12 +443,12 @@ impl<'a> Kind<'a> {
     }
 }
 
-#[no_mangle]
+#[unsafe(no_mangle)]
 pub extern \"C\" fn call(
     book: &[u8],
     number: u64,
 ) -> Answer
-    ensures { λ r. ⌜ r ≡ answer ⌝ }
+    ensures { result ≡ answer }
 {
     match number {
         _ => Kind::of(book).numbers(),
@@ -457,9 +464,9 @@ pub extern \"C\" fn call(
             .map(|one| (one.path.as_str(), one.is_public, one.lines))
             .collect();
         let expected = [
-            ("edge::kinds::Kind::numbers", true, (4, 11)),
-            ("edge::kinds::Kind::helper", false, (13, 15)),
-            ("edge::kinds::call", true, (19, 28)),
+            ("edge::kinds::Kind::numbers", true, (4, 12)),
+            ("edge::kinds::Kind::helper", false, (14, 16)),
+            ("edge::kinds::call", true, (20, 29)),
         ];
         assert_eq!(read, expected);
     }
@@ -469,15 +476,16 @@ pub extern \"C\" fn call(
         let functions = functions("crates/edge/src/lib.rt", CODE);
         assert_eq!(functions[0].signature, "(self) -> [u8; 3]");
         let clauses = [
-            "requires { ⌜ mod' 1 ≡ 1 ⌝ }",
-            "ensures { λ r. ⌜ r ≡ record { first = 1 } ⌝ }",
+            "requires { mod' 1 ≡ 1 }",
+            "ensures numbered { result ≡ record { first = 1 } }",
+            "ensures small { result.first ≤ 9 }",
         ];
         assert_eq!(functions[0].clauses, clauses);
         assert_eq!(
             functions[2].signature,
             "(book: &[u8], number: u64) -> Answer"
         );
-        assert_eq!(functions[2].clauses, ["ensures { λ r. ⌜ r ≡ answer ⌝ }"]);
+        assert_eq!(functions[2].clauses, ["ensures { result ≡ answer }"]);
     }
 
     #[test]

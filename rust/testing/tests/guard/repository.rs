@@ -8,6 +8,8 @@ use std::rc::Rc;
 
 use fervolatro_testing::in_repository;
 
+use crate::rattle::is_word_letter;
+
 /// Folders that hold what was built, or git's own files.
 const NOT_OURS: [&str; 3] = [".git", "target", "rust/target"];
 
@@ -44,10 +46,16 @@ impl Repository {
 
     /// The crates that `crates.txt` lists.
     pub fn crates(&self) -> Vec<&str> {
+        self.listed().map(|(name, _)| name).collect()
+    }
+
+    /// Each crate of `crates.txt` and what it uses. Of a static library the word for it
+    /// stands behind the name.
+    pub fn listed(&self) -> impl Iterator<Item = (&str, &str)> {
         let lines = self.text("crates.txt").lines();
         let listed = lines.filter(|line| !line.starts_with('#'));
         let named = listed.filter_map(|line| line.split_once(':'));
-        named.map(|(name, _)| name).collect()
+        named.map(|(front, uses)| (front.split(' ').next().unwrap_or(front), uses))
     }
 }
 
@@ -72,6 +80,15 @@ fn read_folder(root: &Path, below: &str, files: &mut BTreeMap<String, Rc<str>>) 
     }
 }
 
+/// What follows these words, at each place where a text has them. Where they begin with a
+/// name it is a whole one: `unused_line` is no `used_line`.
+pub fn behind<'a>(text: &'a str, words: &'a str) -> impl Iterator<Item = &'a str> {
+    let is_name = words.starts_with(is_word_letter);
+    let found = text.match_indices(words);
+    let whole = found.filter(move |&(at, _)| !(is_name && text[..at].ends_with(is_word_letter)));
+    whole.map(|(at, _)| &text[at + words.len()..])
+}
+
 /// A text with its numbers written without groups: `50_000_000_000` as `50000000000`.
 pub fn without_groups(text: &str) -> String {
     let letters: Vec<char> = text.chars().collect();
@@ -79,4 +96,30 @@ pub fn without_groups(text: &str) -> String {
     let is_group = |at: usize| letters[at] == '_' && at > 0 && is_digit(at - 1) && is_digit(at + 1);
     let kept = (0..letters.len()).filter(|&at| !is_group(at));
     kept.map(|at| letters[at]).collect()
+}
+
+#[cfg(test)]
+mod tests {
+    use super::{behind, Repository};
+    use std::rc::Rc;
+
+    #[test]
+    fn crates_are_read() {
+        let text = "# a comment: none\nlow:\nlow_c staticlib: low std\n";
+        let files = [("crates.txt".to_owned(), Rc::from(text))];
+        let repository = Repository {
+            files: files.into_iter().collect(),
+        };
+        let listed: Vec<_> = repository.listed().collect();
+        assert_eq!(listed, [("low", ""), ("low_c", " low std")]);
+        assert_eq!(repository.crates(), ["low", "low_c"]);
+    }
+
+    #[test]
+    fn names_are_whole() {
+        let text = "unused_line = 5\nused_line = 4\n  (used_line = 6)";
+        let rests: Vec<&str> = behind(text, "used_line = ").collect();
+        assert_eq!(rests, ["4\n  (used_line = 6)", "6)"]);
+        assert_eq!(behind(text, " = ").count(), 3);
+    }
 }

@@ -30,10 +30,8 @@ fn bracketed(line: &str) -> impl Iterator<Item = &str> {
 /// Each crate with one that it uses, if that is listed too: the toolchain's are not.
 pub fn uses(repository: &Repository) -> Vec<(&str, &str)> {
     let crates = repository.crates();
-    let lines = repository.text("crates.txt").lines();
-    let listed = lines.filter(|line| !line.starts_with('#'));
-    let named = listed.filter_map(|line| line.split_once(':'));
-    let pairs = named.flat_map(|(name, used)| used.split_whitespace().map(move |one| (name, one)));
+    let listed = repository.listed();
+    let pairs = listed.flat_map(|(name, used)| used.split_whitespace().map(move |one| (name, one)));
     pairs.filter(|(_, used)| crates.contains(used)).collect()
 }
 
