@@ -1,4 +1,5 @@
 -- `amounts::pools::pool_cuts` meets its contract. A factored mode gives its data, and any other rounds nothing. Assumes nothing.
+use borrow.Enum.Refused.{opened}
 use mathlib.Core.Path.{◌≡◌, refl, sym, ◌∙◌}
 use native.Mathlib.Omega.{arith}
 use mir.Syntax.{w64}
@@ -11,7 +12,7 @@ use Rattle.amounts.proofs.pools.pool_cuts.Goals as goal
 
 pub returns-in_default : goal.returns-in_default
 unfolding pool_cuts_by_mode
-returns-in_default c = rw (sym c.of-mode.ensures) (unfactored (λ m. none_cut ≡ pool_cuts_by_mode c.args.r.cost m) refl refl refl c.of-mode.result c.in_default.in_default-own.keys2)
+returns-in_default c = rw (sym c.of-mode.ensures) (unfactored (λ m. none_cut ≡ pool_cuts_by_mode c.args.r.cost m) refl refl refl c.of-mode.result (opened c.in_default.in_default-own.keys2))
 
 pub rounded_share-requires : goal.rounded_share-requires
 rounded_share-requires c = (c.requires.cost, ((data_in _ c.requires c.of-mode.ensures c.in-Factored.is).used, omega arith))

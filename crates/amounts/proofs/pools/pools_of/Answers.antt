@@ -1,4 +1,5 @@
 -- `amounts::pools::pools_of` meets its contract. A factored mode gives its data, and any other leaves all unused. Assumes nothing.
+use borrow.Enum.Refused.{opened}
 use mathlib.Core.Path.{◌≡◌, refl, sym}
 use native.Mathlib.Omega.{arith}
 use Rattle.market.proofs.Modes.{unfactored}
@@ -9,7 +10,7 @@ use Rattle.amounts.proofs.pools.pools_of.Goals as goal
 
 pub returns-in_default : goal.returns-in_default
 unfolding pools_by_mode
-returns-in_default c = rw (sym c.of-mode.ensures) (unfactored (λ m. all_unused c.args.r.cost ≡ pools_by_mode c.args.r.cost m) refl refl refl c.of-mode.result c.in_default.in_default-own.keys2)
+returns-in_default c = rw (sym c.of-mode.ensures) (unfactored (λ m. all_unused c.args.r.cost ≡ pools_by_mode c.args.r.cost m) refl refl refl c.of-mode.result (opened c.in_default.in_default-own.keys2))
 
 pub share-used-requires : goal.share-used-requires
 share-used-requires c = (c.requires.cost, ((data_in _ c.requires c.of-mode.ensures c.in-Factored.is).used, omega arith))
