@@ -8,4 +8,4 @@ pub returns-then-not-end : goal.returns-then-not-end
 returns-then-not-end c = record { fields_len = c.take_fields-end.ensures.fields_len; decides = row_none c.take_fields-end.ensures.fields_found (not-true _ c.if-not-end.true) }
 
 pub returns : goal.returns
-returns c = record { fields_len = c.take_fields-end.ensures.fields_len; decides = row_decided c.take_fields-end.new.1.1.0 (c.take_fields-end.ensures.fields_found.found (not-false _ c.if-not-end.false)) c.keeps.ensures refl }
+returns c = record { fields_len = c.take_fields-end.ensures.fields_len; decides = row_decided c.take_fields-end.new.fields (c.take_fields-end.ensures.fields_found.found (not-false _ c.if-not-end.false)) c.keeps.ensures refl }
