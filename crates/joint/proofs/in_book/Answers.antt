@@ -1,0 +1,12 @@
+-- `joint::in_book` meets its contract. A book has the accounts of its unit rows and of its energy rows. Assumes nothing.
+use Rattle.joint.specs.Names.{energies_of, units_of}
+use Rattle.joint.proofs.Known.{in_units, in_energies}
+use Rattle.joint.proofs.in_book.Goals as goal
+
+pub returns-then-in_units : goal.returns-then-in_units
+returns-then-in_units c = let args = c.args in
+    in_units (energies_of args.book.now args.p) _ (units_of args.book.now args.p) _ _ c.in_units.ensures c.if-in_units.true
+
+pub returns : goal.returns
+returns c = let args = c.args in
+    in_energies (energies_of args.book.now args.p) _ (units_of args.book.now args.p) _ _ c.in_units.ensures c.if-in_units.false c.in_energies.ensures
