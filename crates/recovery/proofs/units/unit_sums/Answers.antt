@@ -19,7 +19,7 @@ unit_row-requires c = omega (arith, (row_at (unit_row c.args.units.now) _ _ _ _ 
 
 pub add_row-sums-requires : goal.add_row-sums-requires
 unfolding unit_row
-add_row-sums-requires c = row_room (unit_row c.args.units.now) _ _ _ _ _ c.loop-kind.invariant c.has_key.ensures c.loop-kind-test.true c.unit_row.ensures c.requires.walked c.requires.m_in_bounds.1
+add_row-sums-requires c = let told = row_room (unit_row c.args.units.now) _ _ _ _ _ c.loop-kind.invariant c.has_key.ensures c.loop-kind-test.true c.unit_row.ensures c.requires.walked c.requires.m_in_bounds.1 in record { unit_rule = told.0; pool_le_money_limit = told.1 }
 
 pub loop-kind-preserved : goal.loop-kind-preserved
 unfolding unit_row
