@@ -1,0 +1,6 @@
+-- `asked::line` meets its contract: the demand's theorem, of what the call promises. Assumes nothing.
+use Rattle.demands.proofs.Demand1.{every_input_is_answered}
+use Rattle.asked.proofs.line.Goals as goal
+
+pub returns : goal.returns
+returns c = every_input_is_answered.line _ _ _ c.fervolatro_line.ensures

@@ -1,0 +1,7 @@
+-- `asked::lines` meets its contract: the demands' theorems, of what the call promises. Each element of a lent slice is a byte. Assumes nothing.
+use Rattle.demands.proofs.Demand1.{every_input_is_answered}
+use Rattle.demands.proofs.Demand2.{every_line_and_pool_is_the_guides}
+use Rattle.asked.proofs.lines.Goals as goal
+
+pub returns : goal.returns
+returns c = record { answered = every_input_is_answered.lines _ _ _ _ c.fervolatro_lines.ensures; lines_are_the_line_calls = every_line_and_pool_is_the_guides.lines _ (λ i. (c.shared_slice_known-1.given i).fits) _ _ _ c.fervolatro_lines.ensures }

@@ -1,0 +1,7 @@
+-- `asked::statement` meets its contract. Demands 1 and 2, of what the call promises. Assumes nothing.
+use Rattle.demands.proofs.Demand1.{every_input_is_answered}
+use Rattle.demands.proofs.Demand2.{every_line_and_pool_is_the_guides}
+use Rattle.asked.proofs.statement.Goals as goal
+
+pub returns : goal.returns
+returns c = record { answered = every_input_is_answered.statement _ _ _ _ _ _ c.fervolatro_statement.ensures; statement_is_the_guides = every_line_and_pool_is_the_guides.statement _ _ (λ i. (c.shared_slice_known-1.given i).fits) (λ i. (c.shared_slice_known-2-1.given i).fits) _ c.ranges.account.fits _ _ _ c.fervolatro_statement.ensures }
