@@ -14,7 +14,7 @@ fn main() {
     let is_x86 = env::var("CARGO_CFG_TARGET_ARCH").as_deref() == Ok("x86_64");
     let has_feature = |name: &str| env::var_os(format!("CARGO_FEATURE_{name}")).is_some();
     if is_x86 {
-        link("staticlib", "rt staticlib fervolatro");
+        link("staticlib", "bin/staticlib");
     } else if has_feature("NATIVE") {
         link("native", "tests/native");
     } else if !has_feature("BRIDGE") {

@@ -4,7 +4,7 @@
 //! contract of kind 2 is refused, so that most books here have none. The environment
 //! variable
 //! FERVOLATRO_LISTING names another program to be run in the place of
-//! `target/bin/listing`.
+//! `crates/listing/out/listing`.
 //!
 //! 12 is never given (see `statement.rs`), nor 13: the program lends itself as much room
 //! as the statement's length, which it asks for first.
@@ -186,7 +186,7 @@ fn run(input: &[u8]) -> Output {
         .stdout(Stdio::piped())
         .stderr(Stdio::piped())
         .spawn()
-        .expect("the listing program is built by `rt check listing`");
+        .expect("the listing program is built by `rt run` in crates/listing");
     let mut stdin = child.stdin.take().expect("it was piped");
     // It reads all that it ever reads before it prints, so neither waits for the other.
     if let Err(error) = stdin.write_all(input) {
@@ -202,7 +202,7 @@ fn program() -> Command {
     if let Some(program) = env::var_os("FERVOLATRO_LISTING") {
         return Command::new(program);
     }
-    let listing = in_repository("target/bin/listing");
+    let listing = in_repository("crates/listing/out/listing");
     if cfg!(target_arch = "x86_64") {
         return Command::new(listing);
     }

@@ -1,6 +1,7 @@
 //! When the program is built, and what is said meanwhile. All of this is done in copies
 //! of the repository, with a stand-in for `rt` that proves nothing: it notes that it was
-//! called, prints what the real one prints, and puts the program in its place.
+//! called, prints what the real one prints, and puts the program in its place. First
+//! `rt all check` proves the crates, and then `rt run` builds the program.
 
 use std::collections::BTreeSet;
 use std::env;
@@ -23,6 +24,13 @@ use crate::run::{
 const STAND_IN: &str = r#"#!/bin/sh
 printf '%s\n' "$*" >>"$STAND_IN/calls"
 cat >>"$STAND_IN/eaten"
+[ "${PWD##*/crates/}" = listing ] || exit 2
+if [ "$1" = run ]; then
+    mkdir -p out
+    [ ! -e "$STAND_IN/program" ] || cp "$STAND_IN/program" out/listing
+    cat "$STAND_IN/runs"
+    exit "$(cat "$STAND_IN/ends")"
+fi
 head -n 3 "$STAND_IN/says"
 if [ -e "$STAND_IN/wait" ]; then
     left=100
@@ -33,13 +41,11 @@ if [ -e "$STAND_IN/wait" ]; then
     [ -e "$STAND_IN/go" ] && echo 'in time' >"$STAND_IN/released"
 fi
 tail -n +4 "$STAND_IN/says"
-mkdir -p target/bin
-[ ! -e "$STAND_IN/program" ] || cp "$STAND_IN/program" target/bin/listing
 exit "$(cat "$STAND_IN/status")"
 "#;
 
-/// A copy of what the command needs, and beside it the stand-in and a toolchain's folder
-/// with an identity of its own.
+/// A copy of what the command needs, and beside it a toolchain's folder that has the
+/// stand-in, and an identity of its own.
 struct Copied {
     folder: Folder,
 }
@@ -62,14 +68,19 @@ impl Copied {
             }
         }
         copy(
-            &from.join("target/bin/listing"),
+            &from.join("crates/listing/out/listing"),
             &copied.stand_in("program"),
         );
-        let rt = copied.folder.write("stand-in/rt", STAND_IN);
+        let rt = copied.folder.write("kit/bin/rt", STAND_IN);
         fs::set_permissions(rt, Permissions::from_mode(0o755)).expect("it is our own");
         copied.folder.write("kit/KIT-ID", "a kit\n");
-        symlink(kit().join("on"), copied.folder.path.join("kit/on")).expect("a link can be made");
+        // What tests/x86 takes of it where the machine is another.
+        for part in ["bin/rattle-link", "toolchain"] {
+            let link = copied.folder.path.join("kit").join(part);
+            symlink(kit().join(part), link).expect("a link can be made");
+        }
         copied.rt_says(&all_proved(), 0);
+        copied.run_says("rt: running out/listing\nrefused 1 at 0\n", 0);
         copied
     }
 
@@ -82,10 +93,16 @@ impl Copied {
         self.folder.path.join("stand-in").join(name)
     }
 
-    /// Sets what the stand-in prints, and its status.
+    /// Sets what the stand-in prints of the crates, and its status.
     fn rt_says(&self, words: &str, status: u8) {
         self.folder.write("stand-in/says", words);
         self.folder.write("stand-in/status", status.to_string());
+    }
+
+    /// The same of the program.
+    fn run_says(&self, words: &str, status: u8) {
+        self.folder.write("stand-in/runs", words);
+        self.folder.write("stand-in/ends", status.to_string());
     }
 
     /// Writes a file of the copy.
@@ -99,13 +116,19 @@ impl Copied {
         self.write(name, &(text + more));
     }
 
-    /// How often the stand-in was called, each time for the program and no more.
+    /// How often the stand-in was called for the crates, each time for those of the
+    /// program and no more, and then at most once to build it.
     fn calls(&self) -> usize {
         let calls = fs::read_to_string(self.stand_in("calls")).unwrap_or_default();
-        assert!(calls.lines().all(|call| call == "check listing"), "{calls}");
+        let mut before = "";
+        for call in calls.lines() {
+            let is_wanted = call == "all check" || (before, call) == ("all check", "run");
+            assert!(is_wanted, "{calls}");
+            before = call;
+        }
         let eaten = fs::read(self.stand_in("eaten")).unwrap_or_default();
         assert!(eaten.is_empty(), "rt was given an input");
-        calls.lines().count()
+        calls.lines().filter(|call| *call == "all check").count()
     }
 
     /// How many files the command keeps: two, which are the program and the lock.
@@ -114,13 +137,11 @@ impl Copied {
         kept.expect("the program was built").count()
     }
 
-    /// The copy's command, with the stand-in first on the PATH.
+    /// The copy's command, with the stand-in's toolchain.
     fn ask(&self, file: impl AsRef<Path>) -> Command {
-        let path = env::var("PATH").expect("there is a PATH");
         let mut command = Command::new(self.root().join("bin/listing"));
         command.arg("7").arg(file.as_ref()).stdin(Stdio::null());
         command
-            .env("PATH", format!("{}:{path}", self.stand_in("").display()))
             .env("STAND_IN", self.stand_in(""))
             .env("RATTLE_HOME", self.folder.path.join("kit"));
         command
@@ -178,7 +199,6 @@ fn crates() -> Vec<String> {
         let line = listed
             .lines()
             .find_map(|line| line.strip_prefix(name)?.strip_prefix(':'));
-        // io and libc are the toolchain's own
         if let Some(needed) = line.filter(|_| below.insert(name.to_string())) {
             left.extend(needed.split_whitespace());
         }
@@ -186,16 +206,19 @@ fn crates() -> Vec<String> {
     below.into_iter().collect()
 }
 
-/// What rt prints where each crate is proved, every second one of them long ago.
+/// What rt prints where each crate is proved, every second one of them long ago: of those
+/// it says nothing, or whose work it takes.
 fn all_proved() -> String {
     let crates = crates();
-    let each = crates.iter().enumerate().map(|(place, name)| match place % 2 {
-        0 => format!("fn {name}::some: proved\nlogic=proved functions=1\nrt: {name} proved ({place} s)\n"),
-        _ => format!("rt: {name} proved (unchanged since it was last proved)\n"),
+    let each = crates.iter().enumerate().map(|(place, name)| match place % 4 {
+        0 | 2 => format!("== {name}\nfn {name}::some: proved\nlogic=proved functions=1\n"),
+        1 => format!("== {name}\n"),
+        _ => format!("== {name}\nrt: {name}: begins with what a check kept in /other/{name}\n"),
     });
     let each: String = each.collect();
-    let ran = "rt: listing ran as nobody, and wrote what its file 'stdout' has (0 s)";
-    format!("{each}{ran}\nrt: ok, {} crates proved\n", crates.len())
+    let summary: String = crates.iter().map(|name| format!("{name}: ok\n")).collect();
+    let count = crates.len();
+    format!("{each}== summary\n{summary}{count} of {count} crates ok\n")
 }
 
 #[test]
@@ -203,9 +226,9 @@ fn the_program_is_built_once() {
     let copied = Copied::new();
     assert!(copied.builds(), "the first run builds");
     assert!(!copied.builds(), "the second does not");
-    copied.write("target/bin/listing", "not a program\n");
+    copied.write("crates/listing/out/listing", "not a program\n");
     assert!(!copied.builds(), "what rt alone put there since is not run");
-    fs::remove_dir_all(copied.root().join("target/bin")).expect("it is our own");
+    fs::remove_dir_all(copied.root().join("crates/listing/out")).expect("it is our own");
     assert!(!copied.builds(), "nor needed");
     fs::remove_dir_all(copied.root().join("target")).expect("it is our own");
     assert!(copied.builds(), "it is built where all was removed");
@@ -378,12 +401,15 @@ fn a_run_that_builds_says_so() {
     assert_eq!(said.len(), count + 1, "{ended}");
     assert!(is_in_readme(said[0]), "README has another first line");
     for (place, name) in crates.iter().enumerate() {
-        let time = match place % 2 {
-            0 => format!("{place} s"),
-            _ => "unchanged since it was last proved".to_string(),
+        let (line, time) = said[place + 1].split_once(" (").expect("it says when");
+        let wanted = format!("listing: {} of {count} proved: {name}", place + 1);
+        assert_eq!(line, wanted);
+        let is_time = match place % 2 {
+            // Of the seconds since the first line only the form is known.
+            0 => time.starts_with("after ") && time.ends_with(" s)"),
+            _ => time == "unchanged since it was last proved)",
         };
-        let line = format!("listing: {} of {count} proved: {name} ({time})", place + 1);
-        assert_eq!(said[place + 1], line);
+        assert!(is_time, "{time}");
     }
     ended.must_list_worked_in_the_end();
 }
@@ -447,22 +473,24 @@ fn nothing_is_built_for_a_wrong_question() {
 #[test]
 fn what_is_not_proved_is_not_run() {
     let copied = Copied::new();
-    let error = "crates/ground/src/lib.rt:3:1: error: not so";
+    let error = "src/lib.rt:3:1: error: not so";
     let unproved = format!(
-        "fn ground::some: proved\n{error}\nrt: ground NOT PROVED (exit 1, 3 s)\n\
-         rt: book NOT PROVED: its dependency ground is not proved\nrt: FAILED: ground book\n"
+        "== ground\nfn ground::some: proved\n{error}\nlogic=not-proved\n\
+         rattle build: nothing was built\n== summary\nground: failed (1)\n\
+         book: not run, since ground failed\n0 of 2 crates ok\n"
     );
     let fails = || {
         let ended = run(&mut copied.ask(worked_file()));
         ended.must_fail_saying(
-            "listing: rt check listing failed, so there is no listing program to run",
+            "listing: rt all check failed, so there is no listing program to run",
         );
         let said = [
             error,
             " 1 of ",
             "NOT proved: ground\n",
-            "rt: book NOT PROVED: its",
-            "rt: FAILED: ground book\n",
+            "nothing was built\n",
+            "book: not run, since",
+            "ground: failed (1)\n",
         ];
         for words in said {
             ended.must_fail_saying(words);
@@ -485,20 +513,29 @@ fn what_is_not_proved_is_not_run() {
 #[test]
 fn a_build_that_goes_wrong_is_an_error() {
     let copied = Copied::new();
-    copied.rt_says("rt: crates.txt: line 1: expected NAME: DEP DEP ...\n", 2);
+    let told = "rt: crates.txt: write NAME [staticlib|wasm64] [: LIBRARY ..]";
+    copied.rt_says(&format!("{told}\n"), 2);
     let ended = run(&mut copied.ask(worked_file()));
-    ended.must_fail_saying("rt: crates.txt: line 1: expected NAME");
+    ended.must_fail_saying(told);
+    // A crate that ends with no verdict.
     copied.rt_says(
-        "rt: listing proved, and its run FAILED (0 s)\nrt: FAILED: listing\n",
+        "== ground\nrt: the check was killed\n== summary\nground: failed (-9)\n",
         1,
     );
     let ended = run(&mut copied.ask(worked_file()));
-    ended.must_fail_saying("its run FAILED");
+    ended.must_fail_saying("NOT proved: ground\nrt: the check was killed\nground: failed");
     copied.rt_says(&all_proved(), 0);
+    copied.run_says("LLVM did not compile what was proved\n", 1);
+    let ended = run(&mut copied.ask(worked_file()));
+    ended.must_fail_saying("LLVM did not compile");
+    ended.must_fail_saying("listing: rt run failed, so there is no listing program to run");
+    copied.run_says("", 0);
     let program = copied.stand_in("program");
     let aside = copied.stand_in("aside");
     fs::rename(&program, &aside).expect("it is our own");
-    fs::remove_dir_all(copied.root().join("target")).expect("it is our own");
+    for part in ["target", "crates/listing/out"] {
+        fs::remove_dir_all(copied.root().join(part)).expect("it is our own");
+    }
     let ended = run(&mut copied.ask(worked_file()));
     ended.must_fail_saying("can't put the listing program into");
     let nowhere = copied.folder.path.join("no kit");
@@ -508,21 +545,18 @@ fn a_build_that_goes_wrong_is_an_error() {
     assert!(copied.builds());
 }
 
-/// rt does not ask whether the program of its stamp is still there.
+/// rt asks itself whether the program of its stamp is still there, so that is left to it.
 #[test]
 fn a_program_that_was_removed_is_built() {
     let copied = Copied::new();
-    let stamp = copied.root().join("target/stamp/listing");
+    let stamp = copied.root().join("crates/listing/out/listing.stamp");
     copied.folder.write(&stamp, "a digest\n");
     assert!(copied.builds());
-    assert!(!stamp.exists(), "rt is not told to build it");
-    copied.folder.write(&stamp, "a digest\n");
+    assert!(stamp.exists(), "rt's stamp is left");
+    fs::remove_file(copied.root().join("crates/listing/out/listing")).expect("it is our own");
     copied.append("crates.txt", "# more\n");
     assert!(copied.builds());
-    assert!(
-        stamp.exists(),
-        "rt's stamp is left where the program is there"
-    );
+    assert!(stamp.exists(), "rt's stamp is left");
 }
 
 /// Waits until there is such a file, for ten seconds at most.
