@@ -1,5 +1,6 @@
 // An account's own rows: its energy by region, and whether the book knows it.
 #![tactic(auto)]
+
 pub mod energies; // energies.rt: a book's energies as a part of its bytes
 
 ghost use Rattle.std.specs.Prelude.{◌≡◌, not, ℕ, ◌*◌, ◌≤◌, ◌<◌, eqb, length};

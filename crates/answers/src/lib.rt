@@ -1,5 +1,6 @@
 // What a caller in C or Rust is answered (include/fervolatro.h): plain structs of numbers, and how each case of an answer fills them.
 #![tactic(auto)]
+
 ghost use Rattle.std.specs.Prelude.{◌≡◌};
 ghost use Rattle.answers.specs.Answers.{verdict_answer, written_answer, heading_answer, entry_answer, pool_answer, stage_number, cut_answer, cost_answer, nmas_size_answer, nmas_row_answer, nmas_entry_answer, no_row_answer};
 ghost use Rattle.nmas_reading.specs.Inner.Sized.{Sized, RowSized};

@@ -1,5 +1,6 @@
 // The balance of a pool: what it has to recover, how many lines all accounts have in it, and what they sum to.
 #![tactic(auto)]
+
 pub mod places; // places.rt: where the pool of a number stands
 mod pools; // pools.rt: the balance of each kind of pool
 

@@ -1,5 +1,6 @@
 // Whether an interval, a date and a run are in their ranges. Books and statements carry the same three numbers.
 #![tactic(auto)]
+
 ghost use Rattle.std.specs.Prelude.{◌≡◌};
 ghost use Rattle.calendar.specs.Calendar.{leap_year, thirty_days, days_in, is_date, is_interval, is_run, is_period};
 

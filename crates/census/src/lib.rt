@@ -3,6 +3,7 @@
 // two children, until the place is empty or has a row of the account. No two accounts have the same key, so no way is longer than 25 links,
 // whatever the accounts are. The energy rows are sorted by account, and each account of theirs is looked up once.
 #![tactic(auto)]
+
 ghost use Rattle.std.specs.Prelude.{◌≡◌, [], ◌+◌, ◌*◌, ◌≤◌, ◌<◌, length};
 ghost use Rattle.records.specs.Rows.{energy_row, unit_row};
 ghost use Rattle.census.specs.Inner.Tree.{key_of, root_of, child_of, Place, Grown};

@@ -1,6 +1,7 @@
 // Checks 5 to 9 one by one, and check 10, each over the whole book. Each section is lent on from its offset, and nothing is copied.
 // What the checks before have shown stands in the requires of those after them.
 #![tactic(auto)]
+
 ghost use Rattle.std.specs.Prelude.{◌≡◌, ◌≤◌, length};
 ghost use Rattle.sections.specs.Refusal.{first_of};
 ghost use Rattle.book.specs.Book.{book_in, book_of};

@@ -1,5 +1,6 @@
 // The columns of the reconciliation file: how a field is spelled in each, and its writing into a lent slice.
 #![tactic(auto)]
+
 ghost use Rattle.std.specs.Prelude.{◌≡◌, ℕ, ◌+◌, ◌^◌, ◌≤◌, ◌<◌, length};
 ghost use Rattle.ground.specs.Inner.Put.{Wrote};
 ghost use Rattle.market.specs.Words.{letters_of, Has};

@@ -1,5 +1,6 @@
 // A field of the reconciliation file, read where it stands in a text.
 #![tactic(auto)]
+
 ghost use Rattle.std.specs.Prelude.{◌≡◌, false, ℕ, ◌≤◌, ◌<◌};
 ghost use Rattle.market.specs.Words.{letters_of, Has};
 ghost use Rattle.decimal.specs.Standing.{is_digit, Decides};

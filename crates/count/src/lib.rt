@@ -1,5 +1,6 @@
 // How many lines an account has, without making one: its unit rows are told by their accounts, and the mode says how many lines each has.
 #![tactic(auto)]
+
 ghost use Rattle.std.specs.Prelude.{◌≡◌, cond, ◌+◌, ◌*◌, ◌≤◌, ◌<◌, leb, length};
 ghost use Rattle.sections.specs.Search.{all};
 ghost use Rattle.sections.specs.Total.{total};

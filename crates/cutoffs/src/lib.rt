@@ -1,5 +1,6 @@
 // What the roundings of a pool cut off: for each rounding stage the sum over all accounts, a signed numerator over the stage's divisor.
 #![tactic(auto)]
+
 mod constraints; // constraints.rt: the stages of a constraint's pools
 mod contracts; // contracts.rt: the stages of a contract's pool
 

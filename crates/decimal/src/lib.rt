@@ -1,5 +1,6 @@
 // Numbers as decimal text, written into a lent slice. Each writer answers where its bytes end; every other byte is as it was.
 #![tactic(auto)]
+
 ghost use Rattle.std.specs.Prelude.{◌≡◌, [], ◌∷◌, ◌+◌, ◌/◌, ◌%◌, ◌^◌, ◌≤◌, ◌<◌, length};
 ghost use Rattle.ground.specs.Put.{put};
 ghost use Rattle.ground.specs.Inner.Put.{Wrote};

@@ -1,6 +1,7 @@
 // Numbers as decimal text, read where they stand. Each digit is looked at once. Every loop ends after as many turns as its caller says: where
 // these are constants, the compiler writes the turns out one by one.
 #![tactic(auto)]
+
 ghost use Rattle.std.specs.Prelude.{◌≡◌, true, false, cond, ◌+◌, ◌-◌, ◌*◌, ◌^◌, ◌≤◌, ◌<◌, length};
 ghost use Rattle.ground.specs.Bytes.{byte_at};
 ghost use Rattle.decimal.specs.Standing.{is_digit, Decides};

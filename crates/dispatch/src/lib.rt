@@ -2,6 +2,7 @@
 // One pass, and no row is kept: rows of one id and service stand side by side, so a row asks for two numbers of those before it, and for one as long
 // as all rows are ordinary, since no sum can then pass the limit.
 #![tactic(auto)]
+
 ghost use Rattle.std.specs.Prelude.{◌≡◌, true, cond, ◌&&◌, ◌+◌, ◌*◌, ◌/◌, ◌≤◌, eqb, leb, ltb, length};
 ghost use Rattle.ground.specs.Units.{money_limit};
 ghost use Rattle.sections.specs.First.{first_bad};

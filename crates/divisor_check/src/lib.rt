@@ -1,5 +1,6 @@
 // Check 10: no total to divide by is zero, though the pool be 0.
 #![tactic(auto)]
+
 mod live; // live.rt: the regions that have energy, one bit each
 
 ghost use Rattle.std.specs.Prelude.{◌≡◌, ◌+◌, ◌*◌, ◌≤◌, ◌<◌, length};

@@ -1,6 +1,7 @@
 // The energy over a constraint's regions: an account's, or the total that the constraint divides by. Each is summed on a walk over the set bits of
 // the constraint's mask (market::Region), and read where it stands: no list of five is copied for a constraint.
 #![tactic(auto)]
+
 ghost use Rattle.std.specs.Prelude.{◌≡◌, ℕ, ◌≤◌, ◌<◌, length};
 ghost use Rattle.records.specs.Rows.{entry_row};
 ghost use Rattle.rules.specs.Inner.Facts.{EntryRule};

@@ -1,6 +1,7 @@
 // Lines that belong together, written in their order from a place of the buffer on: those of a unit row, and those of a constraint's residual.
 // Each writer answers where its lines end.
 #![tactic(auto)]
+
 ghost use Rattle.std.specs.Prelude.{[], ◌∷◌, length};
 ghost use Rattle.rules.specs.Inner.Facts.{UnitRule};
 ghost use Rattle.amounts.specs.Inner.Bounds.{SmallPools, SmallResidual};

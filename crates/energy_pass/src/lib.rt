@@ -2,6 +2,7 @@
 // An energy is no larger than its region's sum, so that the limit of an entry, which has been seen to hold, is the limit of its rows too, and
 // no row is held against it.
 #![tactic(auto)]
+
 ghost use Rattle.std.specs.Prelude.{◌≡◌, ℕ, ◌+◌, ◌*◌, ◌≤◌, ◌<◌, length};
 ghost use Rattle.records.specs.Rows.{entry_row, energy_row};
 ghost use Rattle.rules.specs.Inner.Facts.{EntryRule};

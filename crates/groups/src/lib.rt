@@ -1,6 +1,7 @@
 // Lines that belong together: those of a unit row, of a constraint's residual, and of a contract in one region. How many they are, and the one
 // of a number.
 #![tactic(auto)]
+
 ghost use Rattle.std.specs.Prelude.{◌≡◌, ◌≤◌, ◌<◌, length};
 ghost use Rattle.ground.specs.Nth.{found, nth};
 ghost use Rattle.records.specs.Rows.{entry_row};

@@ -4,6 +4,7 @@
 // the locked book's unit rows, and those that are new there, not marked and without an energy row are counted. A second array would not fit
 // the stack that a call may use.
 #![tactic(auto)]
+
 ghost use Rattle.std.specs.Prelude.{◌≡◌, ℕ, ◌+◌, ◌*◌, ◌%◌, ◌≤◌, ◌<◌, length};
 ghost use Rattle.sections.specs.Total.{total};
 ghost use Rattle.records.specs.Rows.{energy_row};

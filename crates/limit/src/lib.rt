@@ -1,6 +1,7 @@
 // 12: whether a line would pass 50,000,000,000 either way. A line is a share of a pool and is at most the pool, so it is the pools that are
 // looked at, before the first line is made.
 #![tactic(auto)]
+
 ghost use Rattle.std.specs.Prelude.{◌≡◌, ℕ, ◌*◌, ◌≤◌, ◌<◌, length};
 ghost use Rattle.sections.specs.Search.{some};
 ghost use Rattle.records.specs.Rows.{constraint_row, contract_row};

@@ -1,6 +1,7 @@
 // Test payments keep the energy of the final run: whose energies settle a contract, the current book's or the locked one's, and whether the
 // locked one is read at all.
 #![tactic(auto)]
+
 ghost use Rattle.std.specs.Prelude.{◌≡◌, not, cond, ◌+◌, ◌*◌, ◌≤◌, length};
 ghost use Rattle.ground.specs.Bytes.{part_from};
 ghost use Rattle.sections.specs.First.{first_bad};

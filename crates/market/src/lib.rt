@@ -1,6 +1,7 @@
 // Services, regions and a constraint's mode: what the numbers of a record stand for, and the words of the market's papers.
 // Raise or lower, the energy that a cost is shared by, the region's bit and name and the mode's data are asked here and nowhere else.
 #![tactic(auto)]
+
 ghost use Rattle.std.specs.Prelude.{◌≡◌, ◌∷◌, ◌-◌, ◌^◌, ◌<◌, length};
 ghost use Rattle.market.specs.Kinds.{service_numbers, region_numbers, is_service, raises, regulates, basis_of, picked, bit_set, mode_with};
 ghost use Rattle.market.specs.Inner.Masks.{regions_in};

@@ -1,5 +1,6 @@
 // A row of the reconciliation file: seventeen fields with commas between and a line feed behind, written into a lent slice.
 #![tactic(auto)]
+
 ghost use Rattle.std.specs.Prelude.{◌≡◌, ℕ, ◌+◌, ◌≤◌, ◌<◌, length, get_or};
 ghost use Rattle.ground.specs.Inner.Put.{Wrote};
 ghost use Rattle.columns.specs.Columns.{InRange};

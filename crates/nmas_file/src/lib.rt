@@ -1,6 +1,7 @@
 // The reconciliation file of an account: a row for each contract and benefiting region, written from an accepted book. The text is measured before
 // its first byte is written.
 #![tactic(auto)]
+
 ghost use Rattle.std.specs.Prelude.{◌≡◌, ℕ, ◌+◌, ◌*◌, ◌≤◌, ◌<◌, length, nat_abs};
 ghost use Rattle.ground.specs.Bytes.{part_from};
 ghost use Rattle.ground.specs.Inner.Put.{Wrote};

@@ -1,5 +1,6 @@
 // The reconciliation file, read: how many rows a text has, and each by its number, or the first line that is none.
 #![tactic(auto)]
+
 ghost use Rattle.std.specs.Prelude.{◌≡◌, cond, ℕ, ◌+◌, ◌<◌, length};
 ghost use Rattle.decimal.specs.Standing.{Decides};
 ghost use Rattle.columns.specs.Columns.{InRange};

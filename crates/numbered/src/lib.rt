@@ -1,5 +1,6 @@
 // One line of an account by its number, from 0 in the statement's order. What lies before it is counted, and only the one line is made.
 #![tactic(auto)]
+
 ghost use Rattle.std.specs.Prelude.{◌≡◌, ℕ, ◌*◌, ◌≤◌, ◌<◌, length};
 ghost use Rattle.records.specs.Rows.{entry_row, constraint_row, unit_row, contract_row};
 ghost use Rattle.ground.specs.Bytes.{part_from};

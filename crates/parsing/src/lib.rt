@@ -1,5 +1,6 @@
 // Bytes taken apart: whether they are a statement, its header, and each of its lines.
 #![tactic(auto)]
+
 ghost use Rattle.std.specs.Prelude.{◌≡◌, ◌+◌, ◌*◌, ◌≤◌, length};
 ghost use Rattle.sections.specs.Search.{all};
 ghost use Rattle.parsing.specs.Parsing.{statement_marked, heading_at, heading_ok, line_from, line_at, spare_clear, one_bit, regions_ok, unit_field_ok, amount_ok, line_ok, line_holds, headed, is_statement};

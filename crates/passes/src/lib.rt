@@ -1,6 +1,7 @@
 // Whether none of checks 5 to 9 refuses a book, each long section in one pass. Books are accepted far more often than not, and which check
 // refuses one, and where, is looked for only then.
 #![tactic(auto)]
+
 ghost use Rattle.std.specs.Prelude.{◌≡◌};
 ghost use Rattle.sections.specs.Refusal.{first_of};
 ghost use Rattle.book.specs.Book.{book_in};

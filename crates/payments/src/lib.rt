@@ -1,5 +1,6 @@
 // An account's lines of one contract. They rest on the region entries and on the account's own energy, and on nothing else of a book.
 #![tactic(auto)]
+
 ghost use Rattle.std.specs.Prelude.{◌≤◌, ◌<◌, length};
 ghost use Rattle.records.specs.Rows.{entry_row};
 ghost use Rattle.totals.specs.Inner.Totals.{entry_of};

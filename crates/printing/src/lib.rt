@@ -1,6 +1,7 @@
 // The pieces of the listing's text, each written into a lent slice: a refusal, a statement's header, its lines.
 // Each writer answers where its bytes end; every other byte is as it was.
 #![tactic(auto)]
+
 ghost use Rattle.std.specs.Prelude.{◌≡◌, ◌+◌, ◌*◌, ◌≤◌, length};
 ghost use Rattle.ground.specs.Inner.Put.{Wrote};
 ghost use Rattle.parsing.specs.Parsing.{lines_in};

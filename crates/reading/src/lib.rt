@@ -1,5 +1,6 @@
 // Statements read back: the header, one line by its number, and the whole written again.
 #![tactic(auto)]
+
 ghost use Rattle.std.specs.Prelude.{◌≡◌};
 ghost use Rattle.reading.specs.Calls.{heading_read, line_read};
 

@@ -1,5 +1,6 @@
 // The first record of a section that a check refuses, and the verdict it comes to. One loop serves every check of single records.
 #![tactic(auto)]
+
 ghost use Rattle.std.specs.Prelude.{◌≡◌, ◌+◌, ◌*◌, ◌≤◌, length};
 ghost use Rattle.ground.specs.Bytes.{part_from};
 ghost use Rattle.sections.specs.First.{first_bad};

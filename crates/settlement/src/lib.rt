@@ -1,5 +1,6 @@
 // The statement of an account, its lines in order and the header before them: how long it is, and its bytes.
 #![tactic(auto)]
+
 ghost use Rattle.std.specs.Prelude.{◌≡◌, not, ◌||◌, ◌*◌, ◌≤◌, length, eqb};
 ghost use Rattle.records.specs.Rows.{unit_row};
 ghost use Rattle.book.specs.Header.{header_of};

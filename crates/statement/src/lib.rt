@@ -1,6 +1,7 @@
 // The bytes of a statement, written into a lent buffer: its header and its lines.
 // Each writer answers where its bytes end; every other byte of the buffer is as it was.
 #![tactic(auto)]
+
 ghost use Rattle.std.specs.Prelude.{◌≡◌, [], ◌∷◌, ◌++◌, ◌+◌, ◌≤◌, length};
 ghost use Rattle.ground.specs.Le.{le16, le32};
 ghost use Rattle.ground.specs.Put.{put};

@@ -1,6 +1,7 @@
 // The listing's text, made into a lent slice: from the program's input to the last line feed.
 // Each writer answers where its bytes end; every other byte is as it was.
 #![tactic(auto)]
+
 ghost use Rattle.std.specs.Prelude.{◌≡◌, true, [], ◌≤◌, length};
 ghost use Rattle.parsing.specs.Parsing.{heading_at, lines_in, is_statement};
 ghost use Rattle.statement.specs.Lent.{length_for};

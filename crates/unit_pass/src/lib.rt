@@ -3,6 +3,7 @@
 // book no row does, so that all is well exactly where every row was taken. No row's factors are tested: sums of at most 1,000,000 have no
 // larger part, and a constraint that keeps its rule has no larger sums.
 #![tactic(auto)]
+
 ghost use Rattle.std.specs.Prelude.{◌≡◌, ℕ, ◌+◌, ◌*◌, ◌≤◌, ◌<◌, length};
 ghost use Rattle.sections.specs.Inner.Order.{Rises};
 ghost use Rattle.sections.specs.Inner.Walk.{Under};

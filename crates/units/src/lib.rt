@@ -1,5 +1,6 @@
 // An account's lines of one constraint. Unit rows stand by their constraints, so a cursor walks them beside the constraints.
 #![tactic(auto)]
+
 ghost use Rattle.std.specs.Prelude.{◌*◌, ◌≤◌, length};
 ghost use Rattle.sections.specs.Inner.Walk.{Stands};
 ghost use Rattle.records.specs.Rows.{unit_row};

@@ -1,5 +1,6 @@
 // The lines of a statement, checked once and handed out as numbers into a lent buffer.
 #![tactic(auto)]
+
 ghost use Rattle.std.specs.Prelude.{◌≡◌, ◌+◌, ◌*◌, ◌≤◌, length};
 ghost use Rattle.ground.specs.Put.{put};
 ghost use Rattle.parsing.specs.Parsing.{lines_in};

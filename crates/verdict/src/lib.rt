@@ -2,6 +2,7 @@
 // a sound book, 17 and 18 whether test payments have a locked book that fits, and 10 whether every total to divide by is there; here they come
 // together.
 #![tactic(auto)]
+
 ghost use Rattle.std.specs.Prelude.{◌≡◌};
 ghost use Rattle.sections.specs.Refusal.{first_of};
 ghost use Rattle.book.specs.Book.{book_in};

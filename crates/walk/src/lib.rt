@@ -1,5 +1,6 @@
 // All lines of an account, made and written in one walk, in the statement's order: constraint by constraint, then contract by contract.
 #![tactic(auto)]
+
 ghost use Rattle.std.specs.Prelude.{ℕ, ◌*◌, ◌≤◌, ◌<◌, length};
 ghost use Rattle.records.specs.Rows.{entry_row, constraint_row, unit_row, contract_row};
 ghost use Rattle.ground.specs.Bytes.{part_from};

@@ -1,5 +1,6 @@
 // The whole statement of an account: how long it is, and its lines and header written into a buffer that has room for them.
 #![tactic(auto)]
+
 ghost use Rattle.std.specs.Prelude.{◌≡◌, ◌+◌, ◌*◌, ◌≤◌, length};
 ghost use Rattle.ground.specs.Inner.Put.{Wrote};
 ghost use Rattle.accounts.specs.declared.energies.OwnEnergies.{OwnEnergies};

@@ -1,5 +1,6 @@
 // Words, written into a lent slice and looked for in a text. Each writer answers where its bytes end; every other byte is as it was.
 #![tactic(auto)]
+
 ghost use Rattle.std.specs.Prelude.{◌+◌, ◌≤◌, length};
 ghost use Rattle.ground.specs.Inner.Put.{Wrote};
 ghost use Rattle.words.specs.Words.{named_text};

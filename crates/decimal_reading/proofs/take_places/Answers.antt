@@ -10,15 +10,14 @@ loop-i-init c = (passed_none, omega arith)
 
 pub with_digit-sum-requires : goal.with_digit-sum-requires
 with_digit-sum-requires c = (
-      passed_fits c.args.decimals c.loop-i.invariant.0 c.loop-i.invariant.1 c.requires.decimals_bound,
-      sym c.is_digit.ensures ∙ c.if-not-is_digit.false,
-    )
+  passed_fits c.args.decimals c.loop-i.invariant.0 c.loop-i.invariant.1 c.requires.decimals_bound,
+  sym c.is_digit.ensures ∙ c.if-not-is_digit.false,
+)
 
 pub loop-i-preserved : goal.loop-i-preserved
-loop-i-preserved c = let wide = c.wide-x.ensures in
-    (
-      passed_more c.loop-i.invariant.0 wide
-          (seen c.args.text.now (c.args.at + c.loop-i.i) _ wide c.is_digit.ensures c.if-not-is_digit.false)
-          c.with_digit-sum.ensures,
-      omega (arith, c.loop-i-test.true),
-    )
+loop-i-preserved c = let wide = c.wide-x.ensures in (
+  passed_more c.loop-i.invariant.0 wide
+      (seen c.args.text.now (c.args.at + c.loop-i.i) _ wide c.is_digit.ensures c.if-not-is_digit.false)
+      c.with_digit-sum.ensures,
+  omega (arith, c.loop-i-test.true),
+)

@@ -19,8 +19,8 @@ returns-then-not-divides c = first_stop _ _ _ c.loop-j.invariant.1
 
 pub loop-j-preserved : goal.loop-j-preserved
 loop-j-preserved c = (
-      search rules,
-      first_more _ _ c.loop-j.invariant.1
-          (divides_at _ c.live_of-live.ensures _ _ c.constraint_row.ensures c.divides.ensures)
-          (ap not c.if-not-divides.false),
-    )
+  search rules,
+  first_more _ _ c.loop-j.invariant.1
+      (divides_at _ c.live_of-live.ensures _ _ c.constraint_row.ensures c.divides.ensures)
+      (ap not c.if-not-divides.false),
+)

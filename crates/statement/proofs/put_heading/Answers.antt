@@ -8,11 +8,11 @@ use Rattle.statement.proofs.put_heading.Goals as goal
 pub returns : goal.returns
 unfolding heading_bytes rcs le16 le32
 returns c = record {
-      bytes =
-          put_more _ _ _ _
-          (put_more _ _ _ _
-          (put_more _ _ _ _ (put_more _ _ _ _ c.put_opening.ensures c.put_period.ensures) c.put_u16.ensures)
-          c.put_u32.ensures)
-          c.put_u32-2.ensures;
-      next = refl;
-    }
+  bytes =
+      put_more _ _ _ _
+      (put_more _ _ _ _
+      (put_more _ _ _ _ (put_more _ _ _ _ c.put_opening.ensures c.put_period.ensures) c.put_u16.ensures)
+      c.put_u32.ensures)
+      c.put_u32-2.ensures;
+  next = refl;
+}

@@ -12,9 +12,9 @@ use Rattle.statement.proofs.put_line.Goals as goal
 pub returns : goal.returns
 unfolding line_bytes le16 le32 le64 int64
 returns c = record {
-      bytes =
-          put_more _ _ _ _
-          (put_more _ _ _ _ c.put_names.ensures c.put_unit.ensures)
-          (rw (to_z-of_z (sfits_of {w = w64} c.struct_told-1.given.1.1.1.1.0.1)) at c.put_i64.ensures);
-      next = refl;
-    }
+  bytes =
+      put_more _ _ _ _
+      (put_more _ _ _ _ c.put_names.ensures c.put_unit.ensures)
+      (rw (to_z-of_z (sfits_of {w = w64} c.struct_told-1.given.1.1.1.1.0.1)) at c.put_i64.ensures);
+  next = refl;
+}

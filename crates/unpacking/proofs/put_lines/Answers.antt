@@ -11,6 +11,6 @@ loop-i-init c = (search rules, laid_none fields_pieces _ _ 0)
 
 pub loop-i-preserved : goal.loop-i-preserved
 loop-i-preserved c = let line = c.line_at in (
-      search rules,
-      laid_more fields_pieces _ _ 0 _ c.loop-i.invariant.1 _ _ line.ensures c.put_fields.ensures (omega (arith, fields_length line.result)),
-    )
+  search rules,
+  laid_more fields_pieces _ _ 0 _ c.loop-i.invariant.1 _ _ line.ensures c.put_fields.ensures (omega (arith, fields_length line.result)),
+)

@@ -17,13 +17,13 @@ unit_sums-u-requires c = let from = c.units_at-from.ensures in
 
 pub over_regions-credit-requires : goal.over_regions-credit-requires
 over_regions-credit-requires c = let o = c.requires.of_constraint in
-let told = shares_over c.args.book.now c.args.h _ c.part_of-e.ensures c.requires.laid c.requires.sound _ o.1 _ _
+    let told = shares_over c.args.book.now c.args.h _ c.part_of-e.ensures c.requires.laid c.requires.sound _ o.1 _ _
     c.divisor-whole.ensures
     (recovery_small _ _ (constraint_rule c.requires.sound _ o.0) c.recovery_of-x.ensures).credit in record { part_laid = told.0; energies_sound = told.1.0; whole_value = told.1.1 }
 
 pub over_regions-charge-requires : goal.over_regions-charge-requires
 over_regions-charge-requires c = let o = c.requires.of_constraint in
-let told = shares_over c.args.book.now c.args.h _ c.part_of-e.ensures c.requires.laid c.requires.sound _ o.1 _ _
+    let told = shares_over c.args.book.now c.args.h _ c.part_of-e.ensures c.requires.laid c.requires.sound _ o.1 _ _
     c.divisor-whole.ensures
     (recovery_small _ _ (constraint_rule c.requires.sound _ o.0) c.recovery_of-x.ensures).charge in record { part_laid = told.0; energies_sound = told.1.0; whole_value = told.1.1 }
 

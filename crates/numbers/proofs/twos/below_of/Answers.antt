@@ -12,5 +12,5 @@ size-chosen false w = refl
 
 pub returns : goal.returns
 unfolding below_of
-returns c =    c.size_of.ensures ∙ ap size_below c.below_bits.ensures
+returns c = c.size_of.ensures ∙ ap size_below c.below_bits.ensures
     ∙ size-chosen (ltb c.args.w 2_147_483_648) c.args.w

@@ -12,6 +12,6 @@ loop-i-init c = (search rules, laid_none line_pieces_lem _ _ 24)
 
 pub loop-i-preserved : goal.loop-i-preserved
 loop-i-preserved c = let line = c.line_at in (
-      search rules,
-      laid_more line_pieces_lem _ _ 24 _ c.loop-i.invariant.1 _ _ line.ensures c.put_line.ensures.bytes (omega (arith, line_length line.result)),
-    )
+  search rules,
+  laid_more line_pieces_lem _ _ 24 _ c.loop-i.invariant.1 _ _ line.ensures c.put_line.ensures.bytes (omega (arith, line_length line.result)),
+)
