@@ -1,0 +1,23 @@
+-- `cutoffs::constraints::rest_above` meets its contract. The kind decides. Assumes nothing.
+use Rattle.recovery.specs.ByKind.{rest_above}
+use Rattle.cutoffs.proofs.constraints.rest_above.Goals as goal
+
+pub returns-in-Contingency : goal.returns-in-Contingency
+unfolding rest_above
+returns-in-Contingency c = rw c.in-Contingency.is
+
+pub returns-in-Fpp : goal.returns-in-Fpp
+unfolding rest_above
+returns-in-Fpp c = rw c.in-Fpp.is
+
+pub returns-in-Used : goal.returns-in-Used
+unfolding rest_above
+returns-in-Used c = rw c.in-Used.is
+
+pub returns-in-Unused : goal.returns-in-Unused
+unfolding rest_above
+returns-in-Unused c = rw c.in-Unused.is
+
+pub returns-in-Payment : goal.returns-in-Payment
+unfolding rest_above
+returns-in-Payment c = rw c.in-Payment.is
