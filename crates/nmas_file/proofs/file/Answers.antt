@@ -6,10 +6,10 @@ use Rattle.nmas_file.proofs.Ends.{file_15, book_refused, file_settled}
 use Rattle.nmas_file.proofs.file.Goals as goal
 
 pub returns-then-payment_type-gt2 : goal.returns-then-payment_type-gt2
-returns-then-payment_type-gt2 c = file_15 c.args.book.now c.args.locked.now c.args.account c.args.payment-type c.if-payment_type-gt2.true
+returns-then-payment_type-gt2 c = file_15 c.args.book.now c.args.locked.now c.args.account c.args.payment_type c.if-payment_type-gt2.true
 
 pub returns-in-Refused : goal.returns-in-Refused
-returns-in-Refused c = book_refused c.args.book.now c.args.locked.now c.args.account c.args.payment-type c.if-payment_type-gt2.false (sym c.check.ensures ∙ c.in-Refused.is)
+returns-in-Refused c = book_refused c.args.book.now c.args.locked.now c.args.account c.args.payment_type c.if-payment_type-gt2.false (sym c.check.ensures ∙ c.in-Refused.is)
 
 pub header_of-h-requires : goal.header_of-h-requires
 header_of-h-requires c = omega (arith, (given c.args.book.now c.args.locked.now c.check.ensures c.in_default.is).long)
@@ -25,4 +25,4 @@ settled_file-requires c = let q = c.check.ensures in
     record { laid = ((laid_in c.args.book.now c.args.locked.now q e i, i), locked_laid c.args.book.now c.args.locked.now q e i t); promise = (promised_in c.args.book.now c.args.locked.now q e i t, c.if-payment_type-gt2.false) }
 
 pub returns : goal.returns
-returns c = file_settled c.args.book.now c.args.locked.now c.args.account c.args.payment-type c.if-payment_type-gt2.false c.check.ensures c.in_default.is c.header_of-h.ensures c.settles_tests-second.ensures c.settled_file.ensures
+returns c = file_settled c.args.book.now c.args.locked.now c.args.account c.args.payment_type c.if-payment_type-gt2.false c.check.ensures c.in_default.is c.header_of-h.ensures c.settles_tests-second.ensures c.settled_file.ensures
