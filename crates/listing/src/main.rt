@@ -2,25 +2,31 @@
 // Every byte of the text is in the contract of `text::put_listing`; this program only reads and writes.
 #![tactic(auto)]
 
-ghost use Rattle.std.specs.Prelude.{◌≡◌, IfOk, vec_len};
+ghost use Rattle.std.specs.Prelude.{◌≡◌, length};
 
-use std::alloc::{AllocError, Global};
 use std::io::{self, Read, Write};
 
-// More than an account and any book (39,796 bytes). Of longer input the part that fits is refused by 2, 3 or 4, as all of it would be.
-const MOST_READ: u64 = 65_536;
-
 // Room for the longest text: a header of 72 bytes, and 2,152 lines of 53.
-fn page(alloc: Global) -> Result<Vec<u8>, AllocError>
-    ensures { IfOk result (λ page. 114_128 ≡ vec_len page) }
+fn page() -> [u8; 114_128]
+    ensures { 114_128 ≡ length result }
 {
-    Ok(vec![in alloc; 0; 114_128]?)
+    [0; 114_128]
 }
 
+// The input's buffer is longer than an account and any book (39,796 bytes). Of longer input the part that fits is refused by 2, 3 or 4, as
+// all of it would be.
 fn main(rt: HostRuntime) -> io::Result<()> {
-    let mut input = Vec::new(rt.alloc());
-    rt.stdin().take(MOST_READ).read_to_end(&mut input)?;
-    let mut page = page(rt.alloc())?;
-    let end = text::put_listing(&mut page, &input);
+    let mut input = [0; 65_536];
+    let mut stdin = rt.stdin();
+    let mut n = 0;
+    while n < 65_536 {
+        let more = stdin.read(&mut input[n..])?;
+        if more == 0 {
+            break;
+        }
+        n += more;
+    }
+    let mut page = page();
+    let end = text::put_listing(&mut page, &input[..n]);
     rt.stdout().write_all(&page[..end])
 }
