@@ -10,9 +10,9 @@ put_heading-e-requires c = heading_room _ c.requires.s_value (λ i. (c.shared_sl
 
 pub put_lines-requires : goal.put_lines-requires
 put_lines-requires c = (
-      lines_lie _ c.requires.s_value (λ i. (c.shared_slice_known-1.given i).fits) _ c.heading_at-h.ensures c.args.text.now c.requires.in_bounds,
-      lines_room _ c.requires.s_value (λ i. (c.shared_slice_known-1.given i).fits) _ c.heading_at-h.ensures c.args.text.now c.requires.in_bounds c.put_heading-e.ensures,
-    )
+  lines_lie _ c.requires.s_value (λ i. (c.shared_slice_known-1.given i).fits) _ c.heading_at-h.ensures c.args.text.now c.requires.in_bounds,
+  lines_room _ c.requires.s_value (λ i. (c.shared_slice_known-1.given i).fits) _ c.heading_at-h.ensures c.args.text.now c.requires.in_bounds c.put_heading-e.ensures,
+)
 
 pub returns : goal.returns
 returns c = said_statement _ c.requires.s_value (λ i. (c.shared_slice_known-1.given i).fits) _ c.heading_at-h.ensures c.args.text.now c.requires.in_bounds c.put_heading-e.ensures c.put_lines.ensures
