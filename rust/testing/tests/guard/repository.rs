@@ -10,7 +10,7 @@ use fervolatro_testing::in_repository;
 
 use crate::rattle::is_word_letter;
 
-/// Folders that hold what was built, or git's own files.
+/// Folders of the whole repository that hold what was built, or git's own files.
 const NOT_OURS: [&str; 3] = [".git", "target", "rust/target"];
 
 /// Every file by its path from the repository's root, with its text. A folder
@@ -59,6 +59,14 @@ impl Repository {
     }
 }
 
+/// Folders that hold what was built, or git's own files: a crate's `out` among them.
+fn is_built(path: &str) -> bool {
+    let of_a_crate = path
+        .strip_prefix("crates/")
+        .and_then(|path| path.split_once('/'));
+    NOT_OURS.contains(&path) || of_a_crate.is_some_and(|(_, inside)| inside == "out")
+}
+
 fn read_folder(root: &Path, below: &str, files: &mut BTreeMap<String, Rc<str>>) {
     let folder = root.join(below);
     let entries = fs::read_dir(&folder).unwrap_or_else(|why| panic!("{}: {why}", folder.display()));
@@ -66,7 +74,7 @@ fn read_folder(root: &Path, below: &str, files: &mut BTreeMap<String, Rc<str>>) 
         let entry = entry.expect("the folder can be read");
         let name = entry.file_name().into_string().expect("names are UTF-8");
         let path = format!("{below}{name}");
-        if NOT_OURS.contains(&path.as_str()) {
+        if is_built(&path) {
             continue;
         }
         if entry.path().is_dir() {
@@ -100,8 +108,18 @@ pub fn without_groups(text: &str) -> String {
 
 #[cfg(test)]
 mod tests {
-    use super::{behind, Repository};
+    use super::{behind, is_built, Repository};
     use std::rc::Rc;
+
+    #[test]
+    fn what_was_built_is_known() {
+        for path in ["target", "rust/target", ".git", "crates/low/out"] {
+            assert!(is_built(path), "{path}");
+        }
+        for path in ["crates/low/src", "crates/low/src/out", "crates/out", "out"] {
+            assert!(!is_built(path), "{path}");
+        }
+    }
 
     #[test]
     fn crates_are_read() {
