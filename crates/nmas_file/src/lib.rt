@@ -298,6 +298,8 @@ fn put_file<'a>(
 
 // The file of an accepted book: what its statement is refused for, then 13. The second book is the first where no contract is a test payment, and
 // then both give the same energies.
+// Not inlined, so that the checks run before there is room for a row's fields on the stack.
+#[inline(never)]
 fn settled_file<'a>(
     book: &'a [u8],
     h: Header,
