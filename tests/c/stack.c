@@ -30,9 +30,9 @@ enum {
     MANY_ROWS = 5000
 };
 
-/* The bytes that a call may use: what it needs, up to the next multiple of 16, so
- * that more is seen; of the calls on a statement, on dispatch rows and on a
- * reconciliation file what the most of them needs. No call may have more than 4,096. */
+/* The bytes that a call may use: what it needed when its limit was set, up to the next
+ * multiple of 16; of the calls on a statement, on dispatch rows and on a
+ * reconciliation file what the most of them needed. No call may have more than 4,096. */
 enum {
     CHECK_LIMIT = 704,
     LENGTH_LIMIT = 976,

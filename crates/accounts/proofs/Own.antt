@@ -14,7 +14,7 @@ use Rattle.book.specs.Inner.Accepted.{own_total, AtMostEntry, Sound}
 use Rattle.accounts.specs.Rows.{rows_of, keep, sum_of, none}
 use Rattle.accounts.specs.Account.{rows_of_account, own_by, own_energy, unknown}
 use Rattle.accounts.specs.Inner.Held.{HeldIs}
-use Rattle.accounts.specs.declared.Held.{Held}
+use Rattle.totals.specs.declared.entries.Totals.{Totals}
 use Rattle.accounts.proofs.Lists.{total_rows}
 
 both : (a b : Bool) (x : ℕ) → cond (a && b) x 0 ≡ cond a (cond b x 0) 0
@@ -44,19 +44,17 @@ module _ {B : Book} (h : Sound B) (account g : ℕ) where
 -- ---- what was found
 
 -- no second thing fits
-pub held_once : (energy : ℕ → EnergyRow) (n account : ℕ) (h k : Held) → Five h.own → Five k.own → HeldIs energy n account h → HeldIs energy n account k → h ≡ k
-held_once energy n account h k l m f g =
-    let own = totals_once h.own k.own l m (λ r b. f.own r b ∙ sym (g.own r b)) in
-    λ j. record { own = own j; any = (f.any ∙ sym g.any) j }
+pub held_once : (energy : ℕ → EnergyRow) (n account : ℕ) {h k : Totals} {x y : Bool} → Five h → Five k → HeldIs energy n account h x → HeldIs energy n account k y → (h ≡ k) × (x ≡ y)
+held_once energy n account {h} {k} l m f g = (totals_once h k l m (λ r b. f.own r b ∙ sym (g.own r b)), f.any ∙ sym g.any)
 
-module _ (B : Book) {account : ℕ} {h : Held} (f : HeldIs B.energy B.header.energies account h) where
+module _ (B : Book) {account : ℕ} {own : Totals} {any : Bool} (f : HeldIs B.energy B.header.energies account own any) where
   -- the energy is that of the account's rows
-  pub held_own : (g : ℕ) → g < 5 → entry_of h.own g ≡ own_energy (rows_of_account B account).energies g
+  pub held_own : (g : ℕ) → g < 5 → entry_of own g ≡ own_energy (rows_of_account B account).energies g
   unfolding rows_of_account
   held_own g l = f.own g l
 
   -- 11: neither a unit row nor an energy row was found
-  pub held_unknown : {u : Bool} → u ≡ not (none (keep (λ r. eqb r.account account) (rows_of B.unit B.header.units))) → not u && not h.any ≡ unknown (rows_of_account B account)
+  pub held_unknown : {u : Bool} → u ≡ not (none (keep (λ r. eqb r.account account) (rows_of B.unit B.header.units))) → not u && not any ≡ unknown (rows_of_account B account)
   unfolding rows_of_account
   held_unknown e = rw (e, f.any) (by (none (rows_of_account B account).units) (none (rows_of_account B account).energies))
     where

@@ -1,6 +1,6 @@
 -- The energies of a book, as they lie in the bytes from its region entries on: they are there, and a sound book's are sound. Assumes nothing.
-use Prim.Native.Nat.{ℕ, ◌+◌}
-use mathlib.Core.Path.{◌≡◌, sym, ap, subst, ◌∙◌}
+use Prim.Native.Nat.{ℕ, ◌+◌, ◌-◌}
+use mathlib.Core.Path.{◌≡◌, refl, sym, ap, subst, ◌∙◌}
 use mathlib.Core.List.{List}
 use native.Mathlib.Omega.{arith}
 use lib.ListN.{length, drop, length-drop}
@@ -17,7 +17,8 @@ use Rattle.book.specs.Inner.Accepted.{Sound}
 use Rattle.book.specs.declared.header.Header.{Header}
 use Rattle.accounts.specs.Inner.Energies.{energies_of, PartOf}
 use Rattle.accounts.specs.Inner.Held.{HeldIs}
-use Rattle.accounts.specs.declared.Held.{Held}
+use Rattle.totals.specs.declared.entries.Totals.{Totals}
+use mathlib.Core.Bool.{Bool}
 
 -- a book's that checks 1 to 9 let pass
 pub sound_of : {B : Book} → Sound B → EnergiesSound (energies_of B)
@@ -29,6 +30,10 @@ sound_of s =
       order = s.ordered.energies;
       sums = s.entry;
     }
+
+-- where the header says that the rows start
+pub part_at : (h : Header) {from : ℕ} → from ≡ energies_from h → PartOf h (record { from = from - 24; rows = h.energies })
+part_at h e = record { from = omega (arith, e); rows = refl }
 
 module _ (b : List ℕ) (h : Header) (p : EnergyPart) (q : PartOf h p) where
   -- the rows stand where the header says
@@ -58,5 +63,5 @@ module _ (b : List ℕ) (h : Header) (p : EnergyPart) (q : PartOf h p) where
   part_sound s = subst EnergiesSound (sym part_energies) (sound_of s)
 
   -- what an account holds of them, it holds of the book
-  pub part_held : (account : ℕ) {x : Held} → HeldIs (energies_in (part_from 24 b) p).row p.rows account x → HeldIs (book_in b h).energy h.energies account x
-  part_held account {x} f = subst (λ (E : Energies). HeldIs E.row E.rows account x) part_energies f
+  pub part_held : (account : ℕ) {own : Totals} {any : Bool} → HeldIs (energies_in (part_from 24 b) p).row p.rows account own any → HeldIs (book_in b h).energy h.energies account own any
+  part_held account {own} {any} f = subst (λ (E : Energies). HeldIs E.row E.rows account own any) part_energies f

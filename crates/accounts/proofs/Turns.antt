@@ -12,7 +12,7 @@ use Rattle.sections.specs.Inner.Walk.{Stands, Past, at_key}
 use Rattle.sections.proofs.Search.{some_none, some_here}
 use Rattle.sections.proofs.Total.{keyed_hit, keyed_le}
 use Rattle.sections.proofs.Groups.{split_rest}
-use Rattle.sections.proofs.Walk.{Run, run_start, run_next, run_over, run_any, at_key_lem, before_run, behind_run}
+use Rattle.sections.proofs.Walk.{Run, run_start, run_next, run_over, run_any, at_none, at_key_lem, before_run, behind_run}
 use Rattle.market.specs.declared.Basis.{Basis}
 use Rattle.rules.specs.Inner.Facts.{EnergyRule}
 use Rattle.records.specs.declared.rows.UnitRow.{UnitRow}
@@ -59,7 +59,7 @@ module _ (energy : ℕ → EnergyRow) (n account : ℕ) where
   pub sums_start : (i : ℕ) → Stands account_of n account i → Sums i (record { ace = replicate 5 0; asoe = replicate 5 0; residual = replicate 5 0 })
   sums_start i s = record { run = run_start _ n account i s; own = sums_nothing energy mine_of i (λ b. before_run _ n account _ i s) }
 
-  -- the loop's test holds of row i: it is there, and the account's
+  -- row i is there, and the account's
   module _ (i : ℕ) {o : Totals} {t : Bool} (s : Sums i o) (e : t ≡ at_key account_of n account i) (h : t ≡ true) where
     pub own_at : (i < n) × ((energy i).account ≡ account)
     own_at = at_key_lem account_of n account i (rw e at h)
@@ -95,8 +95,8 @@ module _ (energy : ℕ → EnergyRow) (n account : ℕ) where
       by false true = refl
       by false false = refl
 
-  -- the loop's end: after the account's rows there is nothing more to add, and it has a row where the loop had a turn
-  pub sums_end : (a i : ℕ) {o : Totals} {t : Bool} → Keeps account_of n → Stands account_of n account a → Sums i o → t ≡ at_key account_of n account i → t ≡ false → HeldIs energy n account (record { own = o; any = ltb a i })
+  -- the loop's end, at a row that is not the account's: after its own there is nothing more to add, and it has one where the loop had a turn
+  pub sums_end : (a i : ℕ) {o : Totals} {t : Bool} → Keeps account_of n → Stands account_of n account a → Sums i o → t ≡ at_key account_of n account i → t ≡ false → HeldIs energy n account o (ltb a i)
   unfolding own_energy
   sums_end a i {o} k b s e h =
       record {
@@ -111,3 +111,10 @@ module _ (energy : ℕ → EnergyRow) (n account : ℕ) where
       whole b g l =
           (split_rest _ _ 5 i n past.high (behind_run account_of n account _ i past) (s.own.each b)).each g l
           ∙ total_rows energy (λ r. eqb r.account account) (λ r. cond (eqb r.region g) (row_by b r) 0) _ (swapped b g) n
+
+  -- or behind the last row
+  pub sums_done : (a i : ℕ) {o : Totals} → Keeps account_of n → Stands account_of n account a → Sums i o → n ≤ i → HeldIs energy n account o (ltb a n)
+  sums_done a i {o} k b s l =
+      let e : i ≡ n = omega (arith, l, s.run.high) in
+      let z : Sums n o = rw e at s in
+      sums_end a n k b z (at_none account_of n account n (omega arith)) refl

@@ -1,3 +1,4 @@
 -- What contracts of inner functions and of functions between the crates speak of, and no promise to a caller outside.
 pub mod Held
 pub mod Energies
+pub mod Lent

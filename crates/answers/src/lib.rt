@@ -5,15 +5,12 @@ ghost use Rattle.std.specs.Prelude.{◌≡◌};
 ghost use Rattle.answers.specs.Answers.{verdict_answer, written_answer, heading_answer, entry_answer, pool_answer, stage_number, cut_answer, cost_answer, nmas_size_answer, nmas_row_answer, nmas_entry_answer, no_row_answer};
 ghost use Rattle.nmas_reading.specs.Inner.Sized.{Sized, RowSized};
 
-use balance::Balanced;
-use cutoffs::{Cutoff, Stage};
-use dispatch::Cost;
+use balance::Balance;
+use cutoffs::{Cut, Stage};
 use nmas::Row;
-use nmas_reading::{RowRead, RowsRead};
 use numbers::sign;
-use reading::{HeadingRead, LineRead};
-use sections::Verdict;
-use statement::Written;
+use sections::Refusal;
+use statement::{Heading, Line};
 
 // `fervolatro_verdict`: refusal 0 is acceptance, and its place is 0.
 #[repr(C)]
@@ -23,17 +20,17 @@ pub struct VerdictAnswer {
     pub place: u64,
 }
 
-pub fn answer(v: Verdict) -> VerdictAnswer
+pub fn answer(v: Result<(), Refusal>) -> VerdictAnswer
     ensures { result ≡ verdict_answer v }
 {
     match v {
-        Verdict::Accepted => VerdictAnswer {
+        Ok(()) => VerdictAnswer {
             refusal: 0, // no check refuses it
             place: 0, // so no place either
         },
-        Verdict::Refused(number, place) => VerdictAnswer {
-            refusal: number as u64,
-            place: place as u64,
+        Err(e) => VerdictAnswer {
+            refusal: e.number as u64,
+            place: e.place as u64,
         },
     }
 }
@@ -47,18 +44,18 @@ pub struct WrittenAnswer {
     pub length: u64,
 }
 
-pub fn written(w: Written) -> WrittenAnswer
+pub fn written(w: Result<usize, Refusal>) -> WrittenAnswer
     ensures { result ≡ written_answer w }
 {
     match w {
-        Written::Length(length) => WrittenAnswer {
+        Ok(length) => WrittenAnswer {
             refusal: 0,
             place: 0,
             length: length as u64,
         },
-        Written::Refused(number, place) => WrittenAnswer {
-            refusal: number as u64,
-            place: place as u64,
+        Err(e) => WrittenAnswer {
+            refusal: e.number as u64,
+            place: e.place as u64,
             length: 0,
         },
     }
@@ -66,7 +63,7 @@ pub fn written(w: Written) -> WrittenAnswer
 
 // `fervolatro_heading`: refusal 0 is success, and then the other fields are the header's.
 #[repr(C)]
-#[derive(Clone, Copy)]
+#[derive(Clone, Copy, Default)]
 pub struct HeadingAnswer {
     pub refusal: u64,
     pub place: u64,
@@ -77,11 +74,11 @@ pub struct HeadingAnswer {
     pub lines: u64,
 }
 
-pub fn heading(h: HeadingRead) -> HeadingAnswer
+pub fn heading(h: Result<Heading, Refusal>) -> HeadingAnswer
     ensures { result ≡ heading_answer h }
 {
     match h {
-        HeadingRead::Heading(x) => HeadingAnswer {
+        Ok(x) => HeadingAnswer {
             refusal: 0,
             place: 0,
             account: x.account as u64,
@@ -90,21 +87,17 @@ pub fn heading(h: HeadingRead) -> HeadingAnswer
             run: x.run as u64,
             lines: x.lines as u64,
         },
-        HeadingRead::Refused(number, place) => HeadingAnswer {
-            refusal: number as u64,
-            place: place as u64,
-            account: 0,
-            date: 0,
-            interval: 0,
-            run: 0,
-            lines: 0,
+        Err(e) => HeadingAnswer {
+            refusal: e.number as u64,
+            place: e.place as u64,
+            ..HeadingAnswer::default()
         },
     }
 }
 
 // `fervolatro_entry`: refusal 0 is success, and then the other fields are the line's.
 #[repr(C)]
-#[derive(Clone, Copy)]
+#[derive(Clone, Copy, Default)]
 pub struct EntryAnswer {
     pub refusal: u64,
     pub place: u64,
@@ -115,11 +108,11 @@ pub struct EntryAnswer {
     pub amount: i64,
 }
 
-pub fn entry(l: LineRead) -> EntryAnswer
+pub fn entry(l: Result<Line, Refusal>) -> EntryAnswer
     ensures { result ≡ entry_answer l }
 {
     match l {
-        LineRead::Line(x) => EntryAnswer {
+        Ok(x) => EntryAnswer {
             refusal: 0,
             place: 0,
             id: x.id as u64,
@@ -128,21 +121,17 @@ pub fn entry(l: LineRead) -> EntryAnswer
             unit: x.unit as u64,
             amount: x.amount,
         },
-        LineRead::Refused(number, place) => EntryAnswer {
-            refusal: number as u64,
-            place: place as u64,
-            id: 0,
-            part: 0,
-            regions: 0,
-            unit: 0,
-            amount: 0,
+        Err(e) => EntryAnswer {
+            refusal: e.number as u64,
+            place: e.place as u64,
+            ..EntryAnswer::default()
         },
     }
 }
 
 // `fervolatro_pool`: refusal 0 is success, and then the other fields are the pool's balance.
 #[repr(C)]
-#[derive(Clone, Copy)]
+#[derive(Clone, Copy, Default)]
 pub struct PoolAnswer {
     pub refusal: u64,
     pub place: u64,
@@ -151,23 +140,21 @@ pub struct PoolAnswer {
     pub sum: i64,
 }
 
-pub fn pool(b: Balanced) -> PoolAnswer
+pub fn pool(b: Result<Balance, Refusal>) -> PoolAnswer
     ensures { result ≡ pool_answer b }
 {
     match b {
-        Balanced::Pool(x) => PoolAnswer {
+        Ok(x) => PoolAnswer {
             refusal: 0,
             place: 0,
             amount: x.amount,
             lines: x.lines as u64,
             sum: x.sum,
         },
-        Balanced::Refused(number, place) => PoolAnswer {
-            refusal: number as u64,
-            place: place as u64,
-            amount: 0,
-            lines: 0,
-            sum: 0,
+        Err(e) => PoolAnswer {
+            refusal: e.number as u64,
+            place: e.place as u64,
+            ..PoolAnswer::default()
         },
     }
 }
@@ -175,7 +162,7 @@ pub fn pool(b: Balanced) -> PoolAnswer
 // `fervolatro_cut`: refusal 0 is success, and then the other fields are the stage's: its number, its region, and what its roundings cut off over
 // the divisor.
 #[repr(C)]
-#[derive(Clone, Copy)]
+#[derive(Clone, Copy, Default)]
 pub struct CutAnswer {
     pub refusal: u64,
     pub place: u64,
@@ -201,11 +188,11 @@ fn stage_number(stage: Stage) -> u64
     }
 }
 
-pub fn cut(found: Cutoff) -> CutAnswer
+pub fn cut(found: Result<Cut, Refusal>) -> CutAnswer
     ensures { result ≡ cut_answer found }
 {
     match found {
-        Cutoff::Cut(x) => {
+        Ok(x) => {
             let stage = x.stage;
             CutAnswer {
                 refusal: 0,
@@ -216,13 +203,10 @@ pub fn cut(found: Cutoff) -> CutAnswer
                 cut: x.cut,
             }
         }
-        Cutoff::Refused(number, place) => CutAnswer {
-            refusal: number as u64,
-            place: place as u64,
-            stage: 0, // no stage has this number
-            region: 0,
-            divisor: 0,
-            cut: 0,
+        Err(e) => CutAnswer {
+            refusal: e.number as u64,
+            place: e.place as u64,
+            ..CutAnswer::default() // no stage has number 0
         },
     }
 }
@@ -236,18 +220,18 @@ pub struct CostAnswer {
     pub amount: u64,
 }
 
-pub fn cost(made: Cost) -> CostAnswer
+pub fn cost(made: Result<u64, Refusal>) -> CostAnswer
     ensures { result ≡ cost_answer made }
 {
     match made {
-        Cost::Amount(amount) => CostAnswer {
+        Ok(amount) => CostAnswer {
             refusal: 0,
             place: 0,
             amount,
         },
-        Cost::Refused(number, place) => CostAnswer {
-            refusal: number as u64,
-            place: place as u64,
+        Err(e) => CostAnswer {
+            refusal: e.number as u64,
+            place: e.place as u64,
             amount: 0, // nothing came of the rows
         },
     }
@@ -262,18 +246,18 @@ pub struct NmasSizeAnswer {
     pub rows: u64,
 }
 
-pub fn nmas_size(read: RowsRead) -> NmasSizeAnswer
+pub fn nmas_size(read: Result<usize, Refusal>) -> NmasSizeAnswer
     ensures { result ≡ nmas_size_answer read }
 {
     match read {
-        RowsRead::Rows(rows) => NmasSizeAnswer {
+        Ok(rows) => NmasSizeAnswer {
             refusal: 0,
             place: 0,
             rows: rows as u64,
         },
-        RowsRead::Refused(number, place) => NmasSizeAnswer {
-            refusal: number as u64,
-            place: place as u64,
+        Err(e) => NmasSizeAnswer {
+            refusal: e.number as u64,
+            place: e.place as u64,
             rows: 0, // those before the refused line are not told
         },
     }
@@ -281,7 +265,7 @@ pub fn nmas_size(read: RowsRead) -> NmasSizeAnswer
 
 // `fervolatro_nmas_entry`: refusal 0 is success, and then the other fields are the row's, with their signs.
 #[repr(C)]
-#[derive(Clone, Copy)]
+#[derive(Clone, Copy, Default)]
 pub struct NmasEntryAnswer {
     pub refusal: u64,
     pub place: u64,
@@ -336,31 +320,16 @@ fn no_row(number: u8, place: usize) -> NmasEntryAnswer
     NmasEntryAnswer {
         refusal: number as u64,
         place: place as u64,
-        date: 0,
-        run: 0,
-        interval: 0,
-        account: 0,
-        contract: 0,
-        payment_type: 0,
-        region: 0,
-        factor: 0,
-        payment: 0,
-        recovery: 0,
-        own_ace: 0,
-        region_ace: 0,
-        own_asoe: 0,
-        region_asoe: 0,
-        by_ace: 0,
-        by_asoe: 0,
+        ..NmasEntryAnswer::default()
     }
 }
 
-pub fn nmas_entry(read: RowRead) -> NmasEntryAnswer
+pub fn nmas_entry(read: Result<Row, Refusal>) -> NmasEntryAnswer
     requires { RowSized read }
     ensures { result ≡ nmas_entry_answer read }
 {
     match read {
-        RowRead::Row(r) => nmas_row(r),
-        RowRead::Refused(number, place) => no_row(number, place),
+        Ok(r) => nmas_row(r),
+        Err(e) => no_row(e.number, e.place),
     }
 }

@@ -6,17 +6,18 @@ use mathlib.Core.Logic.{⊎_elim}
 use borrow.Author.Tests.{eq-eqb, ne_eqb}
 use Rattle.sections.proofs.Cases.{is_zero}
 use mathlib.Core.List.{List}
-use Rattle.sections.specs.declared.Verdict.{Verdict}
-use Rattle.sections.specs.declared.Verdict.TheVariants as verdict
+use Rattle.std.specs.Prelude.{Option, None, Some, Result, Ok, Err}
+use Rattle.sections.specs.Refusal.{Verdict, refused}
+use Rattle.sections.specs.declared.Refusal.{Refusal}
 use Rattle.records.specs.declared.rows.Constraint.{Constraint}
 use Rattle.records.specs.declared.rows.Contract.{Contract}
-use Rattle.book.specs.Header.{header_of}
-use Rattle.book.specs.declared.header.Header.{Header}
-use Rattle.book.specs.Book.{Book, book_in, book_of}
+use Rattle.book.specs.Book.{Book}
+use Rattle.book.specs.Laid.{book_at}
 use Rattle.book.specs.Table.{entries_by, verdict}
 use Rattle.locking.specs.Locking.{settled_by, pick}
-use Rattle.book.specs.Inner.Accepted.{SettlesTests, Promise}
-use Rattle.book.proofs.Second.{is_locked}
+use Rattle.book.specs.Inner.Accepted.{Promise}
+use Rattle.verdict.specs.declared.BothBooks.{BothBooks}
+use Rattle.verdict.specs.Accepted.{BothOf}
 use Rattle.totals.specs.Inner.Energies.{Energies}
 use Rattle.accounts.specs.Account.{public_of}
 use Rattle.accounts.specs.Inner.Energies.{energies_of}
@@ -27,8 +28,6 @@ use Rattle.balance.specs.Inner.Rests.{Counted}
 use Rattle.recovery.specs.Inner.Rests.{PaidBy}
 use Rattle.balance.specs.Inner.Shapes.{belongs, contingency_shape, regulation_shape, constraint_shape, contract_shape}
 use Rattle.balance.specs.declared.Balance.{Balance}
-use Rattle.balance.specs.declared.Balanced.{Balanced}
-use Rattle.balance.specs.declared.Balanced.TheVariants as balanced
 use Rattle.recovery.specs.declared.kinds.Kind.{Kind}
 use Rattle.recovery.specs.declared.kinds.Kind.TheVariants.{Contingency, Fpp, Used, Unused, Payment}
 use Rattle.balance.specs.declared.places.Place.{Place}
@@ -39,39 +38,39 @@ use Rattle.balance.proofs.Balances.{contingency_balance, regulation_balance, con
 -- ---- the verdict
 
 module _ (b l : List ℕ) (number : ℕ) {v : Verdict} (q : v ≡ verdict b l) where
-  pub end_refused : {n p : ℕ} → v ≡ verdict.Refused n p → balanced.Refused n p ≡ balance_of b l number
+  pub end_refused : {e : Refusal} {r : Result Balance Refusal} → v ≡ Err e → r ≡ Err e → r ≡ balance_of b l number
   unfolding balance_of balance_if
-  end_refused e = rw (sym q ∙ e)
+  end_refused d f = rw (sym q ∙ d) f
 
-  module _ (e : v ≡ verdict.Accepted) {h : Header} (i : h ≡ header_of b) {s : List ℕ} (t : SettlesTests b h l s) where
-    pub end_balanced : {x : Balanced} → x ≡ balances_in (book_in b h) (book_of s) number → x ≡ balance_of b l number
-    unfolding balance_of balance_if
-    end_balanced w = rw (sym q ∙ e) (rw (i, is_locked b l q e i t) at w)
+-- x has the two books that were accepted
+pub end_balanced : (b l : List ℕ) (number : ℕ) {x : BothBooks} → BothOf b l x → {r : Result Balance Refusal} → r ≡ balances_in (book_at x.book) (book_at x.second) number → r ≡ balance_of b l number
+unfolding balance_of balance_if
+end_balanced b l number t w = rw t.unrefused (rw (t.header, t.book, t.second_header, t.second) at w)
 
 -- ---- the place
 
-module _ (b : List ℕ) (h : Header) (L : Book) (number : ℕ) {x : Place} (q : PlaceIs (book_in b h).constraint h.constraints h.contracts number x) where
-  module _ {j : ℕ} {kind : Kind} (e : x ≡ place.Constraint j kind) where
-    pub constraint_in : (j < h.constraints) × (belongs ((book_in b h).constraint j) kind ≡ true)
+module _ (B L : Book) (number : ℕ) {x : Option Place} (q : PlaceIs B.constraint B.header.constraints B.header.contracts number x) where
+  module _ {y : Place} (o : x ≡ Some y) {j : ℕ} {kind : Kind} (e : y ≡ place.Constraint j kind) where
+    pub constraint_in : (j < B.header.constraints) × (belongs (B.constraint j) kind ≡ true)
     unfolding PlaceIs
-    constraint_in = let p = rw e at q in (p.0, p.1.0)
+    constraint_in = let p = rw (o, e) at q in (p.0, p.1.0)
 
-    pub end_constraint : {y : Balance} → y ≡ balance_in (book_in b h) L (constraint_pool ((book_in b h).constraint j) kind) → balanced.Pool y ≡ balances_in (book_in b h) L number
+    pub end_constraint : {z : Balance} → z ≡ balance_in B L (constraint_pool (B.constraint j) kind) → Ok z ≡ balances_in B L number
     unfolding PlaceIs balances_in answer_to pools_in public_of
-    end_constraint r = let p = rw e at q in rw (p.1.1 (book_in b h).contract, r)
+    end_constraint r = let p = rw (o, e) at q in rw (p.1.1 B.contract, r)
 
-  module _ {i : ℕ} (e : x ≡ place.Contract i) where
-    pub contract_in : i < h.contracts
+  module _ {y : Place} (o : x ≡ Some y) {i : ℕ} (e : y ≡ place.Contract i) where
+    pub contract_in : i < B.header.contracts
     unfolding PlaceIs
-    contract_in = let p = rw e at q in p.0
+    contract_in = let p = rw (o, e) at q in p.0
 
-    pub end_contract : {y : Balance} → y ≡ balance_in (book_in b h) L (contract_pool ((book_in b h).contract i)) → balanced.Pool y ≡ balances_in (book_in b h) L number
+    pub end_contract : {z : Balance} → z ≡ balance_in B L (contract_pool (B.contract i)) → Ok z ≡ balances_in B L number
     unfolding PlaceIs balances_in answer_to pools_in public_of
-    end_contract r = let p = rw e at q in rw (p.1 (book_in b h).contract, r)
+    end_contract r = let p = rw (o, e) at q in rw (p.1 B.contract, r)
 
-  pub end_15 : x ≡ place.Past → balanced.Refused 15 0 ≡ balances_in (book_in b h) L number
+  pub end_15 : x ≡ None → refused 15 0 ≡ balances_in B L number
   unfolding PlaceIs balances_in answer_to pools_in public_of
-  end_15 e = let p = rw e at q in rw (p (book_in b h).contract)
+  end_15 e = let p = rw e at q in rw (p B.contract)
 
 -- ---- one record's pool
 

@@ -1,18 +1,18 @@
 -- The pool of a number, found by a walk over the constraints. Assumes nothing.
 use Prim.Native.Nat.{ℕ, zero, suc, ◌+◌, ◌-◌, ◌≤◌, ◌<◌}
 use mathlib.Core.Path.{◌≡◌, refl, ap, ◌∙◌}
-use mathlib.Core.Bool.{Bool, true, false, cond, ◌&&◌}
+use mathlib.Core.Bool.{Bool, true, false, cond}
 use mathlib.Core.List.{[], List, ◌∷◌, ◌++◌, append_assoc, append-nil}
 use mathlib.Core.Logic.{⊎_elim}
+use Rattle.std.specs.Prelude.{None, Some}
 use native.Mathlib.Omega.{arith}
 use native.Mathlib.Nat.{add-zero, eq-or-lt_of_le, le_of_suc-le-suc, not-suc-le-zero}
 use native.Mathlib.Numerals.{add-one}
-use borrow.Author.Tests.{eqb-true, eqb-false, ne_eqb}
+use borrow.Author.Tests.{ne_eqb}
 use lib.Dec.{eqb}
 use lib.ListN.{length, length-append}
 use Rattle.records.specs.declared.rows.Constraint.{Constraint}
 use Rattle.records.specs.declared.rows.Contract.{Contract}
-use Rattle.ground.proofs.Every.{every}
 use Rattle.accounts.specs.Rows.{rows_of, concat_map}
 use Rattle.accounts.proofs.Lists.{concat_append}
 use Rattle.balance.specs.Pools.{Pool, past, constraint_pool, constraint_pools, contract_pool, pool_at}
@@ -41,37 +41,24 @@ module _ (r : Constraint) (k : ℕ) (h : k < length (constraint_pools r)) where
   unfolding constraint_pools belongs pool_at
   is_contingency e = record { own = rw e; pool = rw e (let z : k ≡ 0 = omega (arith, rw e at h) in rw z) }
 
-  pub is_fpp : (eqb r.mode 1 && eqb k 0) ≡ true → KindIs r k Fpp
+  pub is_fpp : r.mode ≡ 1 → k ≡ 0 → KindIs r k Fpp
   unfolding constraint_pools belongs pool_at
-  is_fpp t =
-      let s = every (eqb r.mode 1 ∷ eqb k 0 ∷ []) t in
-      let e = eqb-true r.mode 1 s.0 in
-      record { own = rw e; pool = rw (e, eqb-true k 0 s.1.0) }
+  is_fpp e z = record { own = rw e; pool = rw (e, z) }
 
-  pub is_used : (eqb r.mode 1 && eqb k 1) ≡ true → KindIs r k Used
+  pub is_used : r.mode ≡ 1 → k ≡ 1 → KindIs r k Used
   unfolding constraint_pools belongs pool_at
-  is_used t =
-      let s = every (eqb r.mode 1 ∷ eqb k 1 ∷ []) t in
-      let e = eqb-true r.mode 1 s.0 in
-      record { own = rw e; pool = rw (e, eqb-true k 1 s.1.0) }
+  is_used e z = record { own = rw e; pool = rw (e, z) }
 
-  plainly_unused : (r.mode ≡ 0 → ⊥) → eqb r.mode 1 ≡ false → KindIs r k Unused
+  pub third_unused : r.mode ≡ 1 → (k ≡ 0 → ⊥) → (k ≡ 1 → ⊥) → KindIs r k Unused
   unfolding constraint_pools belongs pool_at
-  plainly_unused n e =
+  third_unused e f g = record { own = rw e; pool = rw e (let o : k ≡ 2 = omega (arith, rw e at h, f, g) in rw o) }
+
+  pub only_unused : (r.mode ≡ 0 → ⊥) → (r.mode ≡ 1 → ⊥) → KindIs r k Unused
+  unfolding constraint_pools belongs pool_at
+  only_unused n d =
       let z = ne_eqb r.mode 0 n in
+      let e = ne_eqb r.mode 1 d in
       record { own = rw z; pool = rw (z, e) (let o : k ≡ 0 = omega (arith, rw (z, e) at h) in rw o) }
-
-  third_unused : r.mode ≡ 1 → eqb k 0 ≡ false → eqb k 1 ≡ false → KindIs r k Unused
-  unfolding constraint_pools belongs pool_at
-  third_unused e f g =
-      record { own = rw e; pool = rw e (let o : k ≡ 2 = omega (arith, rw e at h, eqb-false k 0 f, eqb-false k 1 g) in rw o) }
-
-  pub is_unused : (r.mode ≡ 0 → ⊥) → (eqb r.mode 1 && eqb k 0) ≡ false → (eqb r.mode 1 && eqb k 1) ≡ false → KindIs r k Unused
-  is_unused n f g = by (eqb r.mode 1) refl f g
-    where
-      by : (t : Bool) → eqb r.mode 1 ≡ t → (t && eqb k 0) ≡ false → (t && eqb k 1) ≡ false → KindIs r k Unused
-      by true e f g = third_unused (eqb-true r.mode 1 e) f g
-      by false e f g = plainly_unused n e
 
 -- ---- the pool of a number in a list
 
@@ -139,7 +126,7 @@ module _ (con : ℕ → Constraint) (n number : ℕ) where
       look_more h =
           record { within = omega arith; beyond = omega (arith, l.beyond, p, ap (λ (r : Constraint). length (constraint_pools r)) e, length_more constraint_pools con j) }
 
-      pub found_kind : (c : ℕ) (kind : Kind) → left < pools → KindIs r left kind → PlaceIs con n c number (place.Constraint j kind)
+      pub found_kind : (c : ℕ) (kind : Kind) → left < pools → KindIs r left kind → PlaceIs con n c number (Some (place.Constraint j kind))
       unfolding PlaceIs
       found_kind c kind h k =
           let k = rw e at k in
@@ -151,11 +138,11 @@ module _ (con : ℕ → Constraint) (n number : ℕ) where
           let o : j ≡ n = omega (arith, l.within) in
           rw (l.beyond, o) (pool_after (concat_map constraint_pools (rows_of con n)) (concat_map of_contract (rows_of contract c)) left)
 
-      pub found_contract : left < c → PlaceIs con n c number (place.Contract left)
+      pub found_contract : left < c → PlaceIs con n c number (Some (place.Contract left))
       unfolding PlaceIs pool_at
       found_contract b =
           (b, λ contract. all_passed contract ∙ (rw (append-nil, contracts_length contract left, add-zero) at (at_row of_contract contract c left 0 [] b (omega arith))))
 
-      pub found_past : c ≤ left → PlaceIs con n c number place.Past
+      pub found_past : c ≤ left → PlaceIs con n c number None
       unfolding PlaceIs
       found_past b = λ contract. all_passed contract ∙ pool_past (concat_map of_contract (rows_of contract c)) left (rw (contracts_length contract c) b)

@@ -43,7 +43,7 @@ use Rattle.settlement.proofs.Link.{lines_link}
 use Rattle.walk.proofs.Order.{rises_once}
 use Rattle.balance.specs.Pools.{Pool, constraint_pool, contract_pool, has_part, in_pool}
 use Rattle.balance.specs.Inner.Shapes.{belongs}
-use Rattle.recovery.specs.ByKind.{above_by, below_by, pool_by, credit_by, charge_by}
+use Rattle.recovery.specs.ByKind.{above_by, below_by, pool_by, credit_by, charge_by, factor_above, factor_below}
 use Rattle.recovery.specs.Inner.Shapes.{part_of, consumed_part, sent_part}
 use Rattle.recovery.specs.declared.kinds.Kind.{Kind}
 use Rattle.recovery.specs.declared.kinds.Kind.TheVariants.{Contingency, Fpp, Used, Unused, Payment}
@@ -151,7 +151,7 @@ module _ (r : Constraint) where
 
   -- of a unit row
   unit_kept : (kind : Kind) → (r.mode ≡ 0 → ⊥) → belongs r kind ≡ true → (p : Pools) (q : UnitRow) → Kept (in_pool (constraint_pool r kind)) (unit_lines r p q) 1 (round_n (pool_by kind p * above_by kind q) 1_000_000) (round_n (pool_by kind p * below_by kind q) 1_000_000)
-  unfolding belongs unit_lines pool_by above_by below_by by_factor
+  unfolding belongs unit_lines pool_by factor_above factor_below by_factor
   unit_kept Contingency live h p q = absurd (live (eqb-true r.mode 0 h))
   unit_kept Fpp live h p q = rw h (first_kept (its Fpp _ refl) (its Fpp _ refl) (its Fpp _ refl) refl)
   unit_kept Used live h p q = rw h (second_kept (its Used _ refl) (its Used _ refl) (its Used _ refl) refl)

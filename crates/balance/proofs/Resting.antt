@@ -14,21 +14,18 @@ use Rattle.rules.specs.Inner.Facts.{ConstraintRule}
 use Rattle.records.specs.declared.rows.Constraint.{Constraint}
 use Rattle.records.specs.declared.rows.Contract.{Contract}
 use Rattle.totals.specs.Divisors.{over_regions}
-use Rattle.totals.specs.Inner.Energies.{Energies, energies_in, PartLaid, EnergiesSound}
-use Rattle.totals.specs.declared.entries.EnergyPart.{EnergyPart}
+use Rattle.totals.specs.Inner.Energies.{Energies}
 use Rattle.book.specs.Book.{Book, book_in}
 use Rattle.book.specs.Header.{header_of, units_from, energies_from}
 use Rattle.book.specs.Inner.Facts.{Laid}
 use Rattle.book.specs.Inner.Accepted.{Sound, StandsIn}
 use Rattle.book.proofs.Second.{stands_same}
 use Rattle.book.specs.declared.header.Header.{Header}
-use Rattle.accounts.specs.Inner.Energies.{energies_of, PartOf}
-use Rattle.accounts.proofs.Parts.{sound_of, part_energies, part_laid, part_sound}
+use Rattle.accounts.specs.Inner.Energies.{energies_of}
+use Rattle.accounts.proofs.Parts.{sound_of}
 use Rattle.locking.specs.Locking.{source_of, settled_by, pick, reads_locked}
-use Rattle.locking.specs.Inner.Handed.{Handed}
 use Rattle.locking.specs.declared.Source.{Source}
 use Rattle.locking.specs.declared.Source.TheVariants.{Current, Locked}
-use Rattle.locking.proofs.Section.{picked_entries}
 use Rattle.book.specs.Table.{entries_by}
 use Rattle.sharing.specs.Accounts.{accounts_in}
 use Rattle.sharing.proofs.Everyone.{same_accounts}
@@ -47,15 +44,15 @@ use Rattle.recovery.specs.declared.contracts.Paid.{Paid}
 use Rattle.recovery.specs.declared.units.UnitSums.{UnitSums}
 use Rattle.recovery.proofs.Sharing.{sorted}
 
--- ---- the accounts; e and u are where the energy rows and the unit rows start
+-- ---- the accounts
 
 module _ (b : List ℕ) (h : Header) (s : Sound (book_in b h)) where
-  pub sorted_at : (e : ℕ) → e ≡ energies_from h → Sorted (energy_row (part_from e b)) h.energies
-  sorted_at e q = rw q (sorted (sound_of s))
+  pub sorted_at : {energy : List ℕ} → energy ≡ part_from (energies_from h) b → Sorted (energy_row energy) h.energies
+  sorted_at q = rw q (sorted (sound_of s))
 
   -- of one book
-  pub counted_is : (e u : ℕ) → e ≡ energies_from h → u ≡ units_from h → {c : ℕ} → (c ≡ length (accounts_in (energy_row (part_from e b)) h.energies (unit_row (part_from u b)) h.units)) × (c ≤ 1624) → Counted (book_in b h) (book_in b h) c
-  counted_is e u q w z =
+  pub counted_is : {energy units : List ℕ} → energy ≡ part_from (energies_from h) b → units ≡ part_from (units_from h) b → {c : ℕ} → (c ≡ length (accounts_in (energy_row energy) h.energies (unit_row units) h.units)) × (c ≤ 1624) → Counted (book_in b h) (book_in b h) c
+  counted_is q w z =
       let B = book_in b h in
       record { all = rw (q, w) at z.0 ∙ sym (ap length (same_accounts B.energy h.energies B.unit h.units)); few = omega (arith, z.1) }
 
@@ -78,19 +75,22 @@ counted_both b h l k n m z =
 pub counted_alone : (b : List ℕ) (h : Header) (s : List ℕ) (k : Header) → StandsIn b h s → h ≡ header_of b → k ≡ header_of s → reads_locked (book_in b h).contract h.contracts ≡ false → {c : ℕ} → Counted (book_in b h) (book_in b h) c → Counted (book_in b h) (book_in s k) c
 counted_alone b h s k t i j r z = rw (j, stands_same b h s t i r) z
 
--- what is shared by the energies of the part is shared by the book's
-pub part_in : (b : List ℕ) (h : Header) {p : EnergyPart} → PartOf h p → {r : Constraint} {amount x : ℕ} → PartIs (energies_in (part_from 24 b) p) r amount x → PartIs (energies_of (book_in b h)) r amount x
-part_in b h {p} q {r} {amount} {x} s = subst (λ (E : Energies). PartIs E r amount x) (part_energies b h p q) s
+-- what is shared by the energies that are lent is shared by the book's
+pub part_in : {E F : Energies} → E ≡ F → {r : Constraint} {amount x : ℕ} → PartIs E r amount x → PartIs F r amount x
+part_in e {r} {amount} {x} s = subst (λ (E : Energies). PartIs E r amount x) e s
 
 -- ---- a constraint
 
 pub constraint_rule : {B : Book} → Sound B → (r : Constraint) → OfConstraint B r → ConstraintRule r
 constraint_rule s r o = rw o.same (s.fields.constraints o.place o.within)
 
--- what sharing over its regions asks, where p is the book's energies as a part of its bytes
-module _ (b : List ℕ) (h : Header) (p : EnergyPart) (q : PartOf h p) (d : Laid b h) (k : Sound (book_in b h)) (r : Constraint) (o : 0 < over_regions (book_in b h).entry r) where
-  pub shares_over : (whole amount : ℕ) → whole ≡ over_regions (book_in b h).entry r → amount ≤ money_limit → PartLaid (part_from 24 b) p × (EnergiesSound (energies_in (part_from 24 b) p) × ((whole ≡ over_regions (energies_in (part_from 24 b) p).entry r) × ((0 < whole) × (amount ≤ money_limit))))
-  shares_over whole amount w l = (part_laid b h p q d, (part_sound b h p q k, (w, (rw w o, l))))
+-- what sharing over its regions asks, by the book's energies as they are lent
+pub shares_over : (B : Book) {E : Energies} → E ≡ energies_of B → (r : Constraint) → 0 < over_regions B.entry r → {whole amount : ℕ} → whole ≡ over_regions E.entry r → amount ≤ money_limit → (whole ≡ over_regions E.entry r) × ((0 < whole) × (amount ≤ money_limit))
+shares_over B e r o w l = (w, (rw (w, ap (λ (E : Energies). over_regions E.entry r) e) o, l))
+
+-- there is a total of constraint j, r
+pub total_there : (B : Book) {E : Energies} → E ≡ energies_of B → (j : ℕ) {r : Constraint} → r ≡ B.constraint j → 0 < over_regions B.entry (B.constraint j) → 0 < over_regions E.entry r
+total_there B e j i o = rw (i, ap (λ (E : Energies). over_regions E.entry (B.constraint j)) e) o
 
 -- ---- the balance of each kind of pool
 
@@ -107,46 +107,15 @@ pub regulation_is : (B : Book) (count : ℕ) (r : Constraint) (kind : Kind) (x :
 unfolding regulation_shape recovery_of
 regulation_is B count r kind x e u y z a s = rw (a, s, u.rows, u.credit, u.charge, y.sum, z.sum, e)
 
--- ---- a contract, by the energies of the book that settles it: r is the section that was handed back, and p where the rows lie there
+-- ---- a contract, by the energies of the book that settles it
 
-module _ (b : List ℕ) (h : Header) (l : List ℕ) (k : Header) (c : Contract) {s : Source} {r : List ℕ} {p : EnergyPart} (e : s ≡ source_of c.kind) (a : Handed s b l r) (q : PartOf (pick s h k) p) where
-  picked_book : pick s (book_in b h) (book_in l k) ≡ book_in (pick s b l) (pick s h k)
-  picked_book = by s
+module _ (B L : Book) (k : Contract) {s : Source} {E : Energies} (e : s ≡ source_of k.kind) (q : E ≡ energies_of (pick s B L)) where
+  pub settling : E ≡ energies_of (pick (settled_by k) B L)
+  settling = q ∙ ap (λ (x : Source). energies_of (pick x B L)) e
+
+  pub settling_paid : PaidBy (entries_by B L k) k → PaidBy E.entry k
+  settling_paid z = rw (ap (λ (E : Energies). E.entry) settling ∙ picked (settled_by k)) z
     where
-      by : (s : Source) → pick s (book_in b h) (book_in l k) ≡ book_in (pick s b l) (pick s h k)
-      by Current = refl
-      by Locked = refl
-
-  picked_laid : Laid b h → Laid l k → Laid (pick s b l) (pick s h k)
-  picked_laid d f = by s
-    where
-      by : (s : Source) → Laid (pick s b l) (pick s h k)
-      by Current = d
-      by Locked = f
-
-  picked_sound : Sound (book_in b h) → Sound (book_in l k) → Sound (book_in (pick s b l) (pick s h k))
-  picked_sound d f = by s
-    where
-      by : (s : Source) → Sound (book_in (pick s b l) (pick s h k))
-      by Current = d
-      by Locked = f
-
-  -- the energies there are those of the book that settles the contract
-  pub handed_energies : energies_in r p ≡ energies_of (pick (settled_by c) (book_in b h) (book_in l k))
-  handed_energies =
-      ap (λ (x : List ℕ). energies_in x p) a.bytes
-      ∙ part_energies (pick s b l) (pick s h k) p q
-      ∙ ap energies_of (sym picked_book)
-      ∙ ap (λ (x : Source). energies_of (pick x (book_in b h) (book_in l k))) e
-
-  pub handed_laid : Laid b h → Laid l k → PartLaid r p
-  handed_laid d f = rw a.bytes (part_laid (pick s b l) (pick s h k) p q (picked_laid d f))
-
-  pub handed_sound : Sound (book_in b h) → Sound (book_in l k) → EnergiesSound (energies_in r p)
-  handed_sound d f = rw a.bytes (part_sound (pick s b l) (pick s h k) p q (picked_sound d f))
-
-  pub handed_paid : PaidBy (entries_by (book_in b h) (book_in l k) c) c → PaidBy (energies_in r p).entry c
-  handed_paid z = rw (handed_entries) z
-    where
-      handed_entries : (energies_in r p).entry ≡ entries_by (book_in b h) (book_in l k) c
-      handed_entries = picked_entries a ∙ ap (λ (x : Source). pick x (book_in b h).entry (book_in l k).entry) e
+      picked : (s : Source) → (pick s B L).entry ≡ pick s B.entry L.entry
+      picked Current = refl
+      picked Locked = refl

@@ -1,8 +1,8 @@
 -- The balance of a pool. 01, Balance: "It answers the amount to recover (0 for FPP), how many lines all accounts (each that 11 lets pass) have in
 -- that pool, and their sum."
-use Rattle.std.specs.Prelude.{ℕ, List, ℤ, pos, length}
-use Rattle.sections.specs.declared.Verdict.{Verdict}
-use Rattle.sections.specs.declared.Verdict.TheVariants as verdict
+use Rattle.std.specs.Prelude.{ℕ, List, ℤ, pos, length, Result, Ok, Err}
+use Rattle.sections.specs.Refusal.{Verdict, refused}
+use Rattle.sections.specs.declared.Refusal.{Refusal}
 use Rattle.book.specs.Book.{Book, book_of}
 use Rattle.book.specs.Table.{locked_for, verdict}
 use Rattle.accounts.specs.Rows.{keep, sum_of, sum_z}
@@ -12,8 +12,6 @@ use Rattle.statement.specs.declared.Line.{Line}
 use Rattle.settlement.specs.Settle.{lines_for}
 use Rattle.balance.specs.Pools.{Pool, Found, past, found, pools_in, pool_at, in_pool}
 use Rattle.balance.specs.declared.Balance.{Balance}
-use Rattle.balance.specs.declared.Balanced.{Balanced}
-use Rattle.balance.specs.declared.Balanced.TheVariants as balanced
 
 -- ---- L is the book that test payments are settled by
 
@@ -39,19 +37,19 @@ unfoldable pub balance_in : Book → Book → Pool → Balance
 balance_in B L p = record { amount = pos p.amount; lines = line_count B L p; sum = line_sum B L p }
 
 -- 15: "pool or line number past the end"
-unfoldable pub answer_to : Book → Book → Found → Balanced
-answer_to B L past = balanced.Refused 15 0
-answer_to B L (found p) = balanced.Pool (balance_in B L p)
+unfoldable pub answer_to : Book → Book → Found → Result Balance Refusal
+answer_to B L past = refused 15 0
+answer_to B L (found p) = Ok (balance_in B L p)
 
 -- the balance of the pool of a number in an accepted book
-unfoldable pub balances_in : Book → Book → ℕ → Balanced
+unfoldable pub balances_in : Book → Book → ℕ → Result Balance Refusal
 balances_in B L number = answer_to B L (pool_at (pools_in (public_of B)) number)
 
 -- "Numbers 1 to 10 come from every call on a book. A statement then looks for 11, 12, 13, a balance for 15." 17 and 18 come from every call too.
-unfoldable pub balance_if : Verdict → Balanced → Balanced
-balance_if verdict.Accepted x = x
-balance_if (verdict.Refused number place) x = balanced.Refused number place
+unfoldable pub balance_if : Verdict → Result Balance Refusal → Result Balance Refusal
+balance_if (Ok _) x = x
+balance_if (Err e) x = Err e
 
 -- of the book b, with l lent as the locked one
-unfoldable pub balance_of : List ℕ → List ℕ → ℕ → Balanced
+unfoldable pub balance_of : List ℕ → List ℕ → ℕ → Result Balance Refusal
 balance_of b l number = balance_if (verdict b l) (balances_in (book_of b) (book_of (locked_for b l)) number)

@@ -9,12 +9,11 @@ use records::rows;
 use records::rows::Constraint;
 use recovery::kinds::Kind;
 
-// A pool of a constraint, a contract's pool, or a number past the end.
+// A pool of a constraint, or a contract's pool.
 #[derive(Clone, Copy)]
 pub enum Place {
     Constraint(usize, Kind),
     Contract(usize),
-    Past,
 }
 
 // How many pools a constraint has.
@@ -29,36 +28,30 @@ fn kind_at(r: Constraint, place: u64) -> Kind
     requires { place < length (constraint_pools r) }
     ensures { KindIs r place result }
 {
-    if r.mode == Mode::CONTINGENCY {
-        return Kind::Contingency;
+    match (r.mode, place) {
+        (Mode::CONTINGENCY, _) => Kind::Contingency,
+        (Mode::FACTORED, 0) => Kind::Fpp,
+        (Mode::FACTORED, 1) => Kind::Used,
+        _ => Kind::Unused,
     }
-    if (r.mode == Mode::FACTORED) & (place == 0) {
-        return Kind::Fpp;
-    }
-    if (r.mode == Mode::FACTORED) & (place == 1) {
-        return Kind::Used;
-    }
-    Kind::Unused
 }
 
-// The place of the pool of a number, with n constraints and a number of contracts.
-pub fn place_of(cons: &[u8], n: usize, contracts: usize, number: u64) -> Place
+// The place of the pool of a number, if it is not past the end, with n constraints and a number of contracts.
+pub fn place_of(cons: &[u8], n: usize, contracts: usize, number: u64) -> Option<Place>
     requires { n * 40 ≤ length cons.now }
     ensures { PlaceIs (constraint_row cons.now) n contracts number result }
 {
     let mut left = number;
-    let mut j = 0;
-    while j < n {
+    for j in 0..n {
         let r = rows::constraint_row(cons, j);
         let pools = pools_in(r);
         if left < pools {
-            return Place::Constraint(j, kind_at(r, left));
+            return Some(Place::Constraint(j, kind_at(r, left)));
         }
         left -= pools;
-        j += 1;
     }
     if left < (contracts as u64) {
-        return Place::Contract(left as usize);
+        return Some(Place::Contract(left as usize));
     }
-    Place::Past
+    None
 }

@@ -2,40 +2,36 @@
 ghost use Rattle.std.specs.Prelude.{◌≡◌, ◌+◌, ◌*◌, ◌≤◌, ◌<◌};
 ghost use Rattle.ground.specs.Units.{money_limit};
 ghost use Rattle.totals.specs.Divisors.{over_regions};
-ghost use Rattle.totals.specs.Inner.Energies.{energies_in, PartLaid, EnergiesSound};
 ghost use Rattle.book.specs.Header.{header_of};
-ghost use Rattle.book.specs.Book.{book_in};
-ghost use Rattle.book.specs.Inner.Facts.{Laid};
+ghost use Rattle.book.specs.Laid.{book_at};
 ghost use Rattle.book.specs.Inner.Accepted.{Sound, StandsIn};
+ghost use Rattle.accounts.specs.Inner.Lent.{lent};
 ghost use Rattle.balance.specs.Inner.Shapes.{contingency_shape, regulation_shape, contract_shape};
 ghost use Rattle.balance.specs.Inner.Rests.{OfConstraint, Counted, NamesOf};
 ghost use Rattle.recovery.specs.Inner.Rests.{PaidBy};
 
 use crate::Balance;
-use accounts::energies;
+use accounts::energies::BookEnergies;
 use amounts::shares;
 use book::header::Header;
+use book::laid::LaidBook;
 use joint::NamingRows;
 use numbers::sign;
 use records::rows;
 use records::rows::{Constraint, Contract};
 use recovery::kinds::Kind;
 use recovery::{contracts, kinds, regions, units};
-use sections::Checked;
-use totals::entries::EnergyPart;
 
 // How many accounts a book has.
-fn in_book(book: &[u8], h: Header) -> usize
-    requires laid { Laid book.now h }
-    requires sound { Sound (book_in book.now h) }
-    ensures { Counted (book_in book.now h) (book_in book.now h) result }
+fn in_book(book: &LaidBook) -> usize
+    requires { Sound (book_at book.now) }
+    ensures { Counted (book_at book.now) (book_at book.now) result }
 {
-    let energies = h.energies_at();
-    let units = h.units_at();
+    let h = book.header;
     census::all_accounts(
-        &book[energies..],
+        book.energies(),
         h.energies as usize,
-        &book[units..],
+        book.units(),
         h.units as usize,
     )
 }
@@ -54,28 +50,30 @@ fn naming_rows(h: Header) -> NamingRows
 
 // How many accounts the book has together with the one that test payments are settled by. Where there are none of those it is the book itself,
 // and its accounts are counted once.
-pub(crate) fn accounts(book: &[u8], h: Header, locked: &[u8], l: Header) -> usize
-    requires laid { Laid book.now h × Laid locked.now l }
-    requires sound { Sound (book_in book.now h) × Sound (book_in locked.now l) }
-    requires stands_in { StandsIn book.now h locked.now × ((l ≡ header_of locked.now) × (h ≡ header_of book.now)) }
-    ensures { Counted (book_in book.now h) (book_in locked.now l) result }
+// Not inlined, so that the checks run before there is room for a tree of accounts on the stack, and the pool is made when it is there no more.
+#[inline(never)]
+pub(crate) fn accounts(book: &LaidBook, second: &LaidBook) -> usize
+    requires sound { Sound (book_at book.now) × Sound (book_at second.now) }
+    requires stands_in { StandsIn book.now.bytes.now book.now.header second.now.bytes.now }
+    requires headed { (book.now.header ≡ header_of book.now.bytes.now) × (second.now.header ≡ header_of second.now.bytes.now) }
+    ensures { Counted (book_at book.now) (book_at second.now) result }
 {
-    let paid = h.contracts_at();
-    match locking::first_test(&book[paid..], h.contracts as usize) {
-        Checked::Good => in_book(book, h),
-        Checked::Bad(_) => joint::both_accounts(book, naming_rows(h), locked, naming_rows(l)),
+    match locking::first_test(book.contracts(), book.header.contracts as usize) {
+        None => in_book(book),
+        Some(_) => {
+            let p = naming_rows(book.header);
+            joint::both_accounts(book.bytes, p, second.bytes, naming_rows(second.header))
+        }
     }
 }
 
 // A contingency pool: a line of each account.
-pub(crate) fn contingency(bytes: &[u8], e: EnergyPart, r: Constraint, count: usize) -> Balance
-    requires part_laid { PartLaid bytes.now e }
-    requires energies_sound { EnergiesSound (energies_in bytes.now e) }
-    requires r_nonzero { (0 < over_regions (energies_in bytes.now e).entry r) × (r.cost ≤ money_limit) }
-    ensures { result ≡ contingency_shape (energies_in bytes.now e) count r }
+pub(crate) fn contingency(e: BookEnergies, r: Constraint, count: usize) -> Balance
+    requires { (0 < over_regions (lent e).entry r) × (r.cost ≤ money_limit) }
+    ensures { result ≡ contingency_shape (lent e.entry) count r }
 {
-    let whole = divisors::divisor(bytes, r);
-    let charge = regions::over_regions(bytes, e, r, whole, r.cost);
+    let whole = divisors::divisor(e.bytes, r);
+    let charge = regions::over_regions(e, r, whole, r.cost);
     Balance {
         amount: sign::signed(false, r.cost),
         lines: count,
@@ -84,21 +82,18 @@ pub(crate) fn contingency(bytes: &[u8], e: EnergyPart, r: Constraint, count: usi
 }
 
 // A regulation pool: a line of each unit row, by its factor, and a residual line of each account.
-pub(crate) fn regulation(book: &[u8], h: Header, r: Constraint, kind: Kind, count: usize) -> Balance
-    requires laid { Laid book.now h }
-    requires sound { Sound (book_in book.now h) }
-    requires of_constraint { OfConstraint (book_in book.now h) r × (0 < over_regions (book_in book.now h).entry r) }
+pub(crate) fn regulation(book: &LaidBook, r: Constraint, kind: Kind, count: usize) -> Balance
+    requires sound { Sound (book_at book.now) }
+    requires of_constraint { OfConstraint (book_at book.now) r × (0 < over_regions (book_at book.now).entry r) }
     requires count_bound { count ≤ 3248 }
-    ensures { result ≡ regulation_shape (book_in book.now h) count r kind }
+    ensures { result ≡ regulation_shape (book_at book.now) count r kind }
 {
     let x = kinds::recovery_of(r, kind);
-    let from = h.units_at();
-    let u = units::unit_sums(&book[from..], h.units as usize, r.id, kind, x.pool);
-    let bytes = &book[24..];
-    let e = energies::part_of(h);
-    let whole = divisors::divisor(bytes, r);
-    let credit = regions::over_regions(bytes, e, r, whole, x.credit);
-    let charge = regions::over_regions(bytes, e, r, whole, x.charge);
+    let u = units::unit_sums(book.units(), book.header.units as usize, r.id, kind, x.pool);
+    let e = BookEnergies::of(book);
+    let whole = divisors::divisor(e.bytes, r);
+    let credit = regions::over_regions(e, r, whole, x.credit);
+    let charge = regions::over_regions(e, r, whole, x.charge);
     Balance {
         amount: sign::signed(false, x.amount),
         lines: u.rows + count,
@@ -107,13 +102,11 @@ pub(crate) fn regulation(book: &[u8], h: Header, r: Constraint, kind: Kind, coun
 }
 
 // A contract's pool: two lines of each account in each benefiting region.
-pub(crate) fn contract(bytes: &[u8], e: EnergyPart, k: Contract, count: usize) -> Balance
-    requires part_laid { PartLaid bytes.now e }
-    requires energies_sound { EnergiesSound (energies_in bytes.now e) }
-    requires paid_by { PaidBy (energies_in bytes.now e).entry k × (count ≤ 3248) }
-    ensures { result ≡ contract_shape (energies_in bytes.now e) count k }
+pub(crate) fn contract(e: BookEnergies, k: Contract, count: usize) -> Balance
+    requires { PaidBy (lent e).entry k × (count ≤ 3248) }
+    ensures { result ≡ contract_shape (lent e.entry) count k }
 {
-    let x = contracts::payments(bytes, e, k);
+    let x = contracts::payments(e, k);
     Balance {
         amount: sign::signed(false, k.payment),
         lines: x.regions * (2 * count),

@@ -2,9 +2,8 @@
 use mathlib.Core.List.{List, [], ◌∷◌}
 use Prim.Native.Nat.{ℕ}
 use mathlib.Core.Path.{◌≡◌}
-use Rattle.sections.specs.Refusal.{first_of}
-use Rattle.sections.specs.declared.Verdict.TheVariants.{Accepted}
-use Rattle.sections.proofs.Refusal.{first_held, first_joined}
+use Rattle.sections.specs.Refusal.{first_of, unrefused}
+use Rattle.sections.proofs.Verdicts.{first_held, first_joined}
 use Rattle.book.specs.Book.{Book, book_of}
 use Rattle.book.specs.Table.{check1, check2, check3, check4, check5, check6, check7, check8, check9, check17, check18, check10, record_checks, soundness, locked_for, verdict}
 
@@ -18,13 +17,13 @@ twelve_in_a_row b l =
 -- ---- 5 to 9
 
 pub record NoneRefused (B : Book) : Type 0 where
-  pub fields : check5 B ≡ Accepted
-  pub order : check6 B ≡ Accepted
-  pub names : check7 B ≡ Accepted
-  pub factors : check8 B ≡ Accepted
-  pub sums : check9 B ≡ Accepted
+  pub fields : check5 B ≡ unrefused
+  pub order : check6 B ≡ unrefused
+  pub names : check7 B ≡ unrefused
+  pub factors : check8 B ≡ unrefused
+  pub sums : check9 B ≡ unrefused
 
-pub none_refused : (B : Book) → first_of (record_checks B) ≡ Accepted → NoneRefused B
+pub none_refused : (B : Book) → first_of (record_checks B) ≡ unrefused → NoneRefused B
 none_refused B e =
     let c5 = first_held (check5 B) _ e in
     let c6 = first_held (check6 B) _ c5.rest in
@@ -36,11 +35,11 @@ none_refused B e =
 -- ---- 1 to 9
 
 pub record SoundPassed (b : List ℕ) : Type 0 where
-  pub range : check3 b ≡ Accepted
-  pub length : check4 b ≡ Accepted
+  pub range : check3 b ≡ unrefused
+  pub length : check4 b ≡ unrefused
   pub records : NoneRefused (book_of b)
 
-pub sound_passed : (b : List ℕ) → soundness b ≡ Accepted → SoundPassed b
+pub sound_passed : (b : List ℕ) → soundness b ≡ unrefused → SoundPassed b
 unfolding soundness
 sound_passed b e =
     let c1 = first_held _ _ e in
@@ -52,11 +51,11 @@ sound_passed b e =
 -- ---- all of them
 
 pub record AllPassed (b l : List ℕ) : Type 0 where
-  pub sound : soundness b ≡ Accepted
-  pub fits : check18 (book_of b) l ≡ Accepted
-  pub divisors : check10 (book_of b) (book_of (locked_for b l)) ≡ Accepted
+  pub sound : soundness b ≡ unrefused
+  pub fits : check18 (book_of b) l ≡ unrefused
+  pub divisors : check10 (book_of b) (book_of (locked_for b l)) ≡ unrefused
 
-pub all_passed : (b l : List ℕ) → verdict b l ≡ Accepted → AllPassed b l
+pub all_passed : (b l : List ℕ) → verdict b l ≡ unrefused → AllPassed b l
 unfolding verdict
 all_passed b l e =
     let s = first_held (soundness b) _ e in

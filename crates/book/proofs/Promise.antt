@@ -1,5 +1,6 @@
 -- A sound book and an accepted one keep their promises: each check that refuses nothing says what it says of every record. Assumes nothing.
-use Prim.Native.Nat.{ℕ, ◌+◌, ◌≤◌, ◌<◌}
+use Rattle.std.specs.Prelude.{Ok, Err}
+use Prim.Native.Nat.{ℕ, ◌≤◌, ◌<◌}
 use mathlib.Core.List.{List, ◌∷◌}
 use mathlib.Core.Path.{◌≡◌, refl}
 use mathlib.Core.Bool.{Bool, true, false, ◌&&◌, cond}
@@ -8,14 +9,13 @@ use lib.Dec.{eqb}
 use native.Mathlib.Omega.{arith}
 use Rattle.ground.proofs.Every.{every}
 use Rattle.sections.specs.Total.{total_of, keyed}
-use Rattle.sections.specs.declared.Verdict.{Verdict}
-use Rattle.sections.specs.declared.Verdict.TheVariants.{Accepted, Refused}
+use Rattle.sections.specs.Refusal.{Verdict, unrefused}
 use Rattle.sections.proofs.Cases.{zero_one}
-use Rattle.sections.proofs.Refusal.{first_held, record_held, unless_held}
+use Rattle.sections.proofs.Verdicts.{first_held, record_held, unless_held}
 use Rattle.sections.proofs.Total.{total_under}
 use Rattle.records.specs.declared.rows.EnergyRow.{EnergyRow}
 use Rattle.factors.proofs.Said.{owner_of, whole_of, plain_of}
-use Rattle.totals.specs.Sums.{row_by, entry_with, region_of}
+use Rattle.totals.specs.Sums.{row_by, region_of}
 use Rattle.totals.proofs.Said.{entry_of, divisor_of, funded_of}
 use Rattle.totals.proofs.Turns.{entry_with_lem}
 use Rattle.book.specs.Header.{header_of, range_tests, in_range}
@@ -66,7 +66,7 @@ sound_records B i c =
       own = own_of B sums;
     }
 
-pub sound : (b : List ℕ) → soundness b ≡ Accepted → SoundBook b
+pub sound : (b : List ℕ) → soundness b ≡ unrefused → SoundBook b
 unfolding check3 check4
 sound b e =
     let c = sound_passed b e in
@@ -78,29 +78,29 @@ sound b e =
 -- ---- the locked book
 
 -- it passes 1 to 9 where it fits
-passes_sound : (v : Verdict) → passes v ≡ true → v ≡ Accepted
-passes_sound Accepted e = refl
-passes_sound (Refused number place) e = absurd (zero_one cc)
+passes_sound : (v : Verdict) → passes v ≡ true → v ≡ unrefused
+passes_sound (Ok _) e = refl
+passes_sound (Err v) e = absurd (zero_one cc)
 
-pub locks_sound : (h : Header) (l : List ℕ) → locks h l ≡ true → soundness l ≡ Accepted
+pub locks_sound : (h : Header) (l : List ℕ) → locks h l ≡ true → soundness l ≡ unrefused
 unfolding locks
 locks_sound h l e = passes_sound (soundness l) (every (passes (soundness l) ∷ period_tests (header_of l) h) e).0
 
 -- so does the book that test payments are settled by: the locked one, where one is read, or the book itself
-pub locked_passes : (b l : List ℕ) → soundness b ≡ Accepted → check18 (book_of b) l ≡ Accepted → soundness (locked_for b l) ≡ Accepted
+pub locked_passes : (b l : List ℕ) → soundness b ≡ unrefused → check18 (book_of b) l ≡ unrefused → soundness (locked_for b l) ≡ unrefused
 unfolding check18 locked_for
 locked_passes b l s e = by (reads_locked (book_of b).contract (header_of b).contracts) refl
   where
-    by : (t : Bool) → reads_locked (book_of b).contract (header_of b).contracts ≡ t → soundness (cond t l b) ≡ Accepted
+    by : (t : Bool) → reads_locked (book_of b).contract (header_of b).contracts ≡ t → soundness (cond t l b) ≡ unrefused
     by true r = locks_sound (header_of b) l (read_holds (book_of b).contract (header_of b).contracts (locks (header_of b) l) r (record_held _ _ _ _ e))
     by false r = s
 
-pub locked_sound : (b l : List ℕ) → soundness b ≡ Accepted → check18 (book_of b) l ≡ Accepted → SoundBook (locked_for b l)
+pub locked_sound : (b l : List ℕ) → soundness b ≡ unrefused → check18 (book_of b) l ≡ unrefused → SoundBook (locked_for b l)
 locked_sound b l s e = sound (locked_for b l) (locked_passes b l s e)
 
 -- ---- and 10
 
-promised : (B L : Book) → Sound B → Sound L → check10 B L ≡ Accepted → Promise B L
+promised : (B L : Book) → Sound B → Sound L → check10 B L ≡ unrefused → Promise B L
 unfolding check10
 promised B L s t e =
     let shared = first_held _ _ e in
@@ -112,7 +112,7 @@ promised B L s t e =
       funded = funded_of (λ k. entries_by B L (B.contract k)) B.contract B.header.contracts (record_held _ _ _ _ paid.here);
     }
 
-pub accepted : (b l : List ℕ) → verdict b l ≡ Accepted → AcceptedBook b l
+pub accepted : (b l : List ℕ) → verdict b l ≡ unrefused → AcceptedBook b l
 accepted b l e =
     let c = all_passed b l e in
     let s = sound b c.sound in

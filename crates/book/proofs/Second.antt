@@ -4,8 +4,7 @@ use Prim.Native.Nat.{ℕ}
 use mathlib.Core.Path.{◌≡◌, sym, ap, ◌∙◌}
 use mathlib.Core.Bool.{Bool, false, cond}
 use mathlib.Core.List.{List}
-use Rattle.sections.specs.declared.Verdict.{Verdict}
-use Rattle.sections.specs.declared.Verdict.TheVariants.{Accepted}
+use Rattle.sections.specs.Refusal.{Verdict, unrefused}
 use Rattle.locking.specs.Locking.{reads_locked}
 use Rattle.book.specs.Header.{header_of}
 use Rattle.book.specs.declared.header.Header.{Header}
@@ -15,7 +14,7 @@ use Rattle.book.specs.Inner.Facts.{Laid}
 use Rattle.book.specs.Inner.Accepted.{SettlesTests, StandsIn, Promise, AcceptedBook}
 use Rattle.book.proofs.Promise.{accepted}
 
-module _ (b l : List ℕ) {v : Verdict} (q : v ≡ verdict b l) (e : v ≡ Accepted) where
+module _ (b l : List ℕ) {v : Verdict} (q : v ≡ verdict b l) (e : v ≡ unrefused) where
   pub given : AcceptedBook b l
   given = accepted b l (sym q ∙ e)
 

@@ -3,9 +3,8 @@ use mathlib.Core.Path.{◌≡◌, sym, ◌∙◌}
 use mathlib.Core.Bool.{true}
 use borrow.Author.Tests.{leb-true}
 use Rattle.ground.proofs.Every.{every}
-use Rattle.sections.specs.declared.Verdict.{Verdict}
-use Rattle.sections.specs.declared.Verdict.TheVariants.{Accepted}
-use Rattle.sections.proofs.Refusal.{record_held, first_held}
+use Rattle.sections.specs.Refusal.{Verdict, unrefused}
+use Rattle.sections.proofs.Verdicts.{record_held, first_held}
 use Rattle.rules.proofs.Rule.{entry_rules, constraint_rules, unit_rules, energy_rules, contract_rules, constraints_rise, units_rise, energies_rise, contracts_rise}
 use Rattle.factors.proofs.Said.{owner_of, names_of}
 use Rattle.book.specs.declared.header.Header.{Header}
@@ -25,7 +24,7 @@ few_of h e =
     }
 
 module _ (B : Book) where
-  pub fields_of : {v : Verdict} → v ≡ Accepted → v ≡ check5 B → Fields B
+  pub fields_of : {v : Verdict} → v ≡ unrefused → v ≡ check5 B → Fields B
   unfolding check5
   fields_of g q =
       let e = sym q ∙ g in
@@ -42,7 +41,7 @@ module _ (B : Book) where
         contracts = contract_rules B.contract B.header.contracts (record_held _ _ _ _ k.here);
       }
 
-  pub ordered_of : {v : Verdict} → v ≡ Accepted → v ≡ check6 B → Ordered B
+  pub ordered_of : {v : Verdict} → v ≡ unrefused → v ≡ check6 B → Ordered B
   unfolding check6
   ordered_of g q =
       let e = sym q ∙ g in
@@ -57,7 +56,7 @@ module _ (B : Book) where
         contracts = contracts_rise B.contract B.header.contracts (record_held _ _ _ _ k.here);
       }
 
-  pub named_of : {v : Verdict} → v ≡ Accepted → v ≡ check7 B → Named B
+  pub named_of : {v : Verdict} → v ≡ unrefused → v ≡ check7 B → Named B
   unfolding check7
   named_of g q =
       let e = sym q ∙ g in

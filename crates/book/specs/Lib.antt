@@ -1,4 +1,5 @@
 pub mod Header
 pub mod Book
+pub mod Laid
 pub mod Table
 pub mod Inner

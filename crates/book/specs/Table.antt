@@ -1,13 +1,11 @@
 -- The table of refusals. 01, Refusals, in the order they are looked for: "Each check runs over the whole book before the next number;
 -- within it the lowest offset is reported." Each line has the number, where the section starts, the size of its records, the test that a
 -- record must pass, and how many records there are.
-use Rattle.std.specs.Prelude.{ℕ, List, [], ◌∷◌, Bool, true, false, cond, not, ◌||◌, leb, eqb, length}
+use Rattle.std.specs.Prelude.{ℕ, List, [], ◌∷◌, Bool, true, false, cond, not, ◌||◌, leb, eqb, length, Ok, Err}
 use Rattle.ground.specs.Every.{all_of}
 use Rattle.sections.specs.First.{first_bad}
 use Rattle.sections.specs.Order.{rises_by}
-use Rattle.sections.specs.Refusal.{unless, at_record, first_of}
-use Rattle.sections.specs.declared.Verdict.{Verdict}
-use Rattle.sections.specs.declared.Verdict.TheVariants.{Accepted, Refused}
+use Rattle.sections.specs.Refusal.{unless, at_record, first_of, Verdict}
 use Rattle.records.specs.declared.rows.Entry.{Entry}
 use Rattle.records.specs.declared.rows.Contract.{Contract}
 use Rattle.locking.specs.Locking.{settled_by, pick, is_test, reads_locked}
@@ -89,8 +87,8 @@ unfoldable pub check17 : Book → List ℕ → Verdict
 check17 B l = at_test 17 B (not (eqb (length l) 0))
 
 abbrev pub passes : Verdict → Bool
-passes Accepted = true
-passes (Refused number place) = false
+passes (Ok _) = true
+passes (Err e) = false
 
 -- a header of the locked book beside the current book's: "another date or interval, or a later run"
 abbrev pub period_tests : Header → Header → List Bool

@@ -20,13 +20,7 @@ pub fn is_marked(book: &[u8]) -> bool
     requires { 84 ≤ length book.now }
     ensures { result ≡ book_marked book.now }
 {
-    let mark = b"RCB";
-    (book[0] == mark[0])
-        & (book[1] == mark[1])
-        & (book[2] == mark[2])
-        & (book[3] == 0)
-        & (read::u16_at(book, 4) == 1)
-        & (read::u16_at(book, 22) == 0)
+    book.starts_with(b"RCB\0") & (read::u16_at(book, 4) == 1) & (read::u16_at(book, 22) == 0)
 }
 
 pub fn header_of(book: &[u8]) -> Header

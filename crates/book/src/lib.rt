@@ -2,3 +2,4 @@
 #![tactic(auto)]
 
 pub mod header; // header.rt: the header and where the sections start
+pub mod laid; // laid.rt: a book that is as long as its header says, and its sections

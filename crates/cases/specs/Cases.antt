@@ -2,11 +2,10 @@
 -- 01, Proved cases: "rounding of 1/2, -1/2, 3/2, -7/4, 1/4 gives 1, -1, 2, -2, 0; the FPP pool 7,391,250; used 5,584,520; unused 8,376,780;
 -- unit 3's FPP line 221,738; residual lines -27,717, -20,942, -26,177." And 02, Req 01: "Document 001's raise regulation prices and enablement
 -- are a test: 17,474,333".
-use Rattle.std.specs.Prelude.{ℕ, ◌≡◌, List, [], ◌∷◌, ◌++◌, true, false, ℤ}
+use Rattle.std.specs.Prelude.{ℕ, ◌≡◌, List, [], ◌∷◌, ◌++◌, true, false, ℤ, Result, Ok}
 use Rattle.numbers.specs.Sign.{signed}
 use Rattle.dispatch.specs.Dispatch.{payment, base_cost}
-use Rattle.dispatch.specs.declared.Cost.{Cost}
-use Rattle.dispatch.specs.declared.Cost.TheVariants.{Amount}
+use Rattle.sections.specs.declared.Refusal.{Refusal}
 use Rattle.book.specs.Book.{book_of}
 use Rattle.book.specs.Table.{locked_for}
 use Rattle.amounts.specs.declared.pools.Pools.{Pools}
@@ -99,7 +98,7 @@ pub data Case : Type 0 where
   number : ℤ → ℤ → Case
   lines : List Line → List Line → Case
   bytes : List ℕ → List ℕ → Case
-  cost : Cost → Cost → Case
+  cost : Result ℕ Refusal → Result ℕ Refusal → Case
 
 -- a quotient, rounded as a share of a pool is: credit - charge over a total
 abbrev pub quotient : ℕ → ℕ → ℕ → ℤ
@@ -129,9 +128,9 @@ table =
     ∷ listed 7 0 (minus 20_942)
     ∷ listed 8 0 (minus 26_177)
     ∷ [])
-    ∷ cost (payment raise_regulation 9) (Amount 17_474_333)
-    ∷ cost (base_cost raise_regulation 1 9) (Amount 3_465_417)
-    ∷ cost (base_cost raise_regulation 2 9) (Amount 13_961_250)
+    ∷ cost (payment raise_regulation 9) (Ok 17_474_333)
+    ∷ cost (base_cost raise_regulation 1 9) (Ok 3_465_417)
+    ∷ cost (base_cost raise_regulation 2 9) (Ok 13_961_250)
     ∷ []
 
 abbrev pub Holds : Case → Type 0

@@ -29,26 +29,25 @@ pub fn unit_account(units: &[u8], u: usize) -> u32
 }
 
 // The key of an account, by whose bits it is looked for in the tree.
-fn key(a: u32) -> usize
-    ensures { (result ≡ key_of a) × (result < 4_294_967_296) }
+fn key(a: u32) -> u32
+    ensures { result ≡ key_of a }
 {
-    (a as usize) * 2_654_435_761 % 4_294_967_296
+    a.wrapping_mul(2_654_435_761)
 }
 
 // The root at which a key starts.
-fn root(key: usize) -> usize
-    requires { key < 4_294_967_296 }
+fn root(key: u32) -> usize
     ensures { (result ≡ root_of key) × (result < 256) }
 {
-    key / 16_777_216
+    (key >> 24) as usize
 }
 
 // The slot of a child of the row behind a link: the first bit says which.
-fn child(link: usize, bits: usize) -> usize
-    requires { (link ≤ 600) × (bits < 4_294_967_296) }
+fn child(link: usize, bits: u32) -> usize
+    requires { link ≤ 600 }
     ensures { result ≡ child_of link bits }
 {
-    254 + 2 * link + bits / 2_147_483_648
+    254 + 2 * link + (bits >> 31) as usize
 }
 
 // The place of an account in the tree of the first u unit rows: the first slot on its way that is empty or has a row of the account.
@@ -60,14 +59,15 @@ fn find(units: &[u8], u: usize, links: &[u16; 1456], a: u32) -> usize
 {
     let k = key(a);
     let mut slot = root(k);
-    let mut bits = k * 256 % 4_294_967_296;
+    let mut bits = k << 8;
     let mut link = links[slot] as usize;
+    // From row to row of the way: how long it is shows only at its end.
     while 0 < link {
         if unit_account(units, link - 1) == a {
             return slot;
         }
         slot = child(link, bits);
-        bits = bits * 2 % 4_294_967_296;
+        bits <<= 1;
         link = links[slot] as usize;
     }
     slot
@@ -105,10 +105,8 @@ fn unit_accounts(units: &[u8], m: usize, links: &mut [u16; 1456]) -> usize
     ensures grown_2 { Grown (unit_account (unit_row units.now)) m links.new }
 {
     let mut count = 0;
-    let mut u = 0;
-    while u < m {
+    for u in 0..m {
         count += new_unit(units, u, links);
-        u += 1;
     }
     count
 }
@@ -163,10 +161,8 @@ pub fn grown_accounts(
     ensures grown_2 { Grown (unit_account (unit_row units.now)) m links.new }
 {
     let mut count = unit_accounts(units, m, links);
-    let mut i = 0;
-    while i < n {
+    for i in 0..n {
         count += new_energy(energy, n, i, units, m, links);
-        i += 1;
     }
     count
 }

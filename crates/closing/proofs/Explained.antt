@@ -3,7 +3,7 @@
 use Prim.Native.Nat.{ℕ, ◌<◌}
 use mathlib.Core.Path.{◌≡◌}
 use mathlib.Core.List.{List}
-use Rattle.sections.specs.declared.Verdict.TheVariants.{Accepted}
+use Rattle.sections.specs.Refusal.{unrefused}
 use Rattle.rules.specs.Rules.{factor_of}
 use Rattle.locking.specs.Locking.{settled_by, pick}
 use Rattle.book.specs.Book.{book_of}
@@ -18,7 +18,7 @@ use Rattle.closing.proofs.Pools.{pools_accounted}
 use Rattle.closing.proofs.Exact.{pools_exact, region_exact}
 
 -- l is lent as the locked book
-module _ (b l : List ℕ) (v : verdict b l ≡ Accepted) where
+module _ (b l : List ℕ) (v : verdict b l ≡ unrefused) where
   -- of every pool
   pub every_balance_is_explained : (number : ℕ) (p : Pool) → pool_at (pools_in (public_of (book_of b))) number ≡ found p → Explained (book_of b) (book_of (locked_for b l)) p
   every_balance_is_explained number p e = (pools_accounted (accepted b l v).promise (one_sided b) number p e).explained

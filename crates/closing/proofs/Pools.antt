@@ -24,7 +24,7 @@ use Rattle.amounts.specs.Pools.{pools_of, residual_pools}
 use Rattle.accounts.specs.Account.{public_of}
 use Rattle.accounts.specs.Inner.Energies.{energies_of}
 use Rattle.recovery.specs.Recovers.{recovers, benefiting}
-use Rattle.recovery.specs.ByKind.{rest_above, rest_below, above_by, below_by, pool_by, credit_by, charge_by}
+use Rattle.recovery.specs.ByKind.{rest_above, rest_below, above_by, below_by, pool_by, credit_by, charge_by, factor_above, factor_below}
 use Rattle.recovery.specs.Inner.Shapes.{unit_credit, unit_charge, shared_sum, region_paid}
 use Rattle.recovery.specs.declared.kinds.Kind.{Kind}
 use Rattle.recovery.specs.declared.kinds.Kind.TheVariants.{Contingency, Fpp, Used, Unused, Payment}
@@ -99,7 +99,7 @@ module _ {B L : Book} (p : Promise B L) (o : OneSided B) where
         → let r = B.constraint j in
         pool_by kind (pools_of r) * (sum_over B.unit B.header.units r.id (below_by kind) + rest_below kind r)
         ≡ pool_by kind (pools_of r) * (sum_over B.unit B.header.units r.id (above_by kind) + rest_above kind r) + million * recovers r kind
-    unfolding belongs pool_by above_by below_by rest_above rest_below recovers
+    unfolding belongs pool_by factor_above factor_below recovers
     factors_whole Contingency h = absurd (live (eqb-true (B.constraint j).mode 0 h))
     factors_whole Fpp h =
         let w = p.sound.factored j l (eqb-true (B.constraint j).mode 1 h) in

@@ -20,7 +20,7 @@ use Rattle.records.specs.declared.rows.UnitRow.{UnitRow}
 use Rattle.book.specs.Book.{Book, book_of}
 use Rattle.amounts.specs.Pools.{residual_pools}
 use Rattle.amounts.specs.declared.pools.Pools.{Pools}
-use Rattle.recovery.specs.ByKind.{rest_above, rest_below, above_by, below_by, pool_by, credit_by, charge_by}
+use Rattle.recovery.specs.ByKind.{rest_above, rest_below, above_by, below_by, pool_by, credit_by, charge_by, factor_above, factor_below}
 use Rattle.recovery.specs.Inner.Shapes.{cut_above}
 use Rattle.recovery.specs.declared.kinds.Kind.{Kind}
 use Rattle.recovery.specs.declared.kinds.Kind.TheVariants.{Contingency, Fpp, Used, Unused, Payment}
@@ -49,7 +49,7 @@ one_sided b = record { units = λ u. one_side _; constraints = λ j. one_side _ 
 
 -- a unit row's factor
 pub unit_side : (kind : Kind) (q : UnitRow) → (q.pcf ≡ 0) ⊎ (q.ncf ≡ 0) → (above_by kind q ≡ 0) ⊎ (below_by kind q ≡ 0)
-unfolding above_by below_by
+unfolding factor_above factor_below
 unit_side Contingency q s = inl refl
 unit_side Fpp q s = s
 unit_side Used q s = inl refl
@@ -58,7 +58,7 @@ unit_side Payment q s = inl refl
 
 -- the residual's
 pub rest_side : (kind : Kind) (r : Constraint) → (r.prcf ≡ 0) ⊎ (r.nrcf ≡ 0) → (rest_above kind r ≡ 0) ⊎ (rest_below kind r ≡ 0)
-unfolding rest_above rest_below
+unfolding factor_above factor_below
 rest_side Contingency r s = inl refl
 rest_side Fpp r s = s
 rest_side Used r s = inl refl
@@ -70,7 +70,7 @@ rest_side Payment r s = inl refl
 module _ (r : Constraint) (x : Pools) where
   -- what is credited
   pub rest_credit : (kind : Kind) → round_n (pool_by kind x * rest_above kind r) million ≡ credit_by kind (residual_pools r x)
-  unfolding pool_by rest_above credit_by residual_pools
+  unfolding pool_by factor_above credit_by residual_pools
   rest_credit Contingency = refl
   rest_credit Fpp = refl
   rest_credit Used = sym (share_nothing x.used million refl)
@@ -79,7 +79,7 @@ module _ (r : Constraint) (x : Pools) where
 
   -- what is charged
   pub rest_charge : (kind : Kind) → round_n (pool_by kind x * rest_below kind r) million ≡ charge_by kind (residual_pools r x)
-  unfolding pool_by rest_below charge_by residual_pools
+  unfolding pool_by factor_below charge_by residual_pools
   rest_charge Contingency = refl
   rest_charge Fpp = refl
   rest_charge Used = refl

@@ -1,23 +1,21 @@
 -- What every column's form keeps to, and how a field is put together. Assumes nothing.
 use Prim.Native.Nat.{ℕ, suc, ◌+◌, ◌^◌, ◌≤◌, ◌<◌}
-use mathlib.Core.Path.{◌≡◌, refl}
-use mathlib.Core.Bool.{true, false, true≢false, false≢true}
-use mathlib.Core.List.{List, [], ◌∷◌, ◌++◌}
+use mathlib.Core.Path.{◌≡◌, refl, ap, ◌∙◌}
+use mathlib.Core.List.{List, [], ◌∷◌}
 use native.Mathlib.Omega.{arith}
-use lib.ListN.{length, take, length-append, length-take}
+use lib.ListN.{length, length-append}
 use Rattle.ground.specs.Inner.Each.{Each}
 use Rattle.ground.specs.Inner.Put.{Wrote}
 use Rattle.ground.proofs.Each.{each_at}
 use Rattle.ground.proofs.Put.{wrote_more, wrote_length}
 use Rattle.numbers.specs.Sign.{signed}
-use Rattle.market.specs.Words.{letters_of, Has}
-use Rattle.market.specs.declared.Word.{Word}
 use Rattle.decimal.specs.Decimal.{signed_text}
-use Rattle.columns.specs.Columns.{number_form, charge_form, word_form, columns, form_of, spelled_by, spelled, end_of, cell_text, InRange}
-use Rattle.columns.specs.Inner.Cells.{are_none, Among, word_in}
+use Rattle.columns.specs.Columns.{number_form, charge_form, columns, form_of, spelled_by, spelled, end_of, cell_text, InRange}
+use Rattle.columns.specs.Inner.Cells.{Among, word_in}
 use Rattle.columns.specs.declared.Form.{Form}
 use Rattle.columns.specs.declared.Words.{Words}
-use Rattle.columns.specs.declared.Words.TheVariants.{No, Service, PaymentType, Region}
+use Rattle.columns.specs.declared.Words.TheVariants.{Service, PaymentType, Region}
+use Rattle.std.specs.Prelude.{Option, None, Some}
 
 -- ---- each column
 
@@ -98,29 +96,18 @@ next n j h d = omega arith
 -- ---- how a field is spelled
 
 module _ (f : Form) (x : ℕ) where
-  pub as_number : are_none f.words ≡ true → spelled f x ≡ signed_text (signed f.charge x) f.decimals
+  pub as_number : f.words ≡ None → spelled f x ≡ signed_text (signed f.charge x) f.decimals
   unfolding spelled
-  as_number e = by f.words e
-    where
-      by : (w : Words) → are_none w ≡ true → spelled_by w f x ≡ signed_text (signed f.charge x) f.decimals
-      by No e = refl
-      by Service e = absurd (false≢true e)
-      by PaymentType e = absurd (false≢true e)
-      by Region e = absurd (false≢true e)
+  as_number e = ap (λ (w : Option Words). spelled_by w f x) e
 
-  pub as_word : are_none f.words ≡ false → spelled f x ≡ word_in f.words x
+  pub as_word : {words : Words} → f.words ≡ Some words → spelled f x ≡ word_in (Some words) x
   unfolding spelled
-  as_word e = by f.words e
+  as_word {words} e = ap (λ (w : Option Words). spelled_by w f x) e ∙ by words
     where
-      by : (w : Words) → are_none w ≡ false → spelled_by w f x ≡ word_in w x
-      by No e = absurd (true≢false e)
-      by Service e = refl
-      by PaymentType e = refl
-      by Region e = refl
-
--- a word's letters are some of its array's
-pub letters_in : (w : Word) → Has (letters_of w) w → w.count ≤ length w.letters
-letters_in w h = omega (arith, simp length-take at h.long)
+      by : (w : Words) → spelled_by (Some w) f x ≡ word_in (Some w) x
+      by Service = refl
+      by PaymentType = refl
+      by Region = refl
 
 -- ---- a field and the byte behind it
 

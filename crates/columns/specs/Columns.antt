@@ -1,25 +1,25 @@
 -- The columns of the reconciliation file. 02, Req 05: "the post-2024 fields of source document 003: its first ten, RECOVERY_AMOUNT and its last
 -- six"; "Numbers have four decimals for money, three for MWh, six for the benefit factor"; "comma-separated text", "lines end in a line feed".
-use Rattle.std.specs.Prelude.{ℕ, ◌≤◌, true, false, cond, List, [], ◌∷◌, ◌++◌, eqb, get_or}
+use Rattle.std.specs.Prelude.{ℕ, ◌≤◌, true, false, cond, List, [], ◌∷◌, ◌++◌, eqb, get_or, Option, None, Some}
 use Rattle.ground.specs.Units.{million, money_limit, energy_limit}
 use Rattle.numbers.specs.Sign.{signed}
 use Rattle.market.specs.Words.{region_name, payment_type_name, restart_name}
 use Rattle.decimal.specs.Decimal.{signed_text}
 use Rattle.columns.specs.declared.Form.{Form}
 use Rattle.columns.specs.declared.Words.{Words}
-use Rattle.columns.specs.declared.Words.TheVariants.{No, Service, PaymentType, Region}
+use Rattle.columns.specs.declared.Words.TheVariants.{Service, PaymentType, Region}
 
 -- a column of numbers of 0 and above, with so many decimals: the least and the most
 abbrev pub number_form : ℕ → ℕ → ℕ → Form
-number_form decimals least most = record { words = No; charge = false; decimals = decimals; least = least; most = most }
+number_form decimals least most = record { words = None; charge = false; decimals = decimals; least = least; most = most }
 
 -- a column of numbers of 0 and below, by their sizes: what an account has to pay, and ACE
 abbrev pub charge_form : ℕ → ℕ → Form
-charge_form decimals most = record { words = No; charge = true; decimals = decimals; least = 0; most = most }
+charge_form decimals most = record { words = None; charge = true; decimals = decimals; least = 0; most = most }
 
 -- a column of words, by their numbers
 abbrev pub word_form : Words → ℕ → Form
-word_form words most = record { words = words; charge = false; decimals = 0; least = 0; most = most }
+word_form words most = record { words = Some words; charge = false; decimals = 0; least = 0; most = most }
 
 -- the seventeen, in their order, each with "the book's or statement's ranges". That a date is a real one, and that RECOVERY_AMOUNT is "the sum of
 -- the last two", is asked of the row.
@@ -48,11 +48,11 @@ abbrev pub form_of : ℕ → Form
 form_of column = get_or columns column (number_form 0 0 0)
 
 -- how x is spelled in a column: a number with its decimals and its minus, "no spare leading zeros, no -0", or a word
-abbrev pub spelled_by : Words → Form → ℕ → List ℕ
-spelled_by No f x = signed_text (signed f.charge x) f.decimals
-spelled_by Service f x = restart_name
-spelled_by PaymentType f x = payment_type_name x
-spelled_by Region f x = region_name x
+abbrev pub spelled_by : Option Words → Form → ℕ → List ℕ
+spelled_by None f x = signed_text (signed f.charge x) f.decimals
+spelled_by (Some Service) f x = restart_name
+spelled_by (Some PaymentType) f x = payment_type_name x
+spelled_by (Some Region) f x = region_name x
 
 unfoldable pub spelled : Form → ℕ → List ℕ
 spelled f x = spelled_by f.words f x

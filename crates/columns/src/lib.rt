@@ -3,39 +3,24 @@
 
 ghost use Rattle.std.specs.Prelude.{◌≡◌, ℕ, ◌+◌, ◌^◌, ◌≤◌, ◌<◌, length};
 ghost use Rattle.ground.specs.Inner.Put.{Wrote};
-ghost use Rattle.market.specs.Words.{letters_of, Has};
 ghost use Rattle.columns.specs.Columns.{number_form, charge_form, word_form, form_of, end_of, spelled, cell_text, InRange};
-ghost use Rattle.columns.specs.Inner.Cells.{are_none, Among, word_in};
+ghost use Rattle.columns.specs.Inner.Cells.{Among, word_in};
 
-use market::{PaymentType, Region, Word};
+use market::{PaymentType, Region};
 use numbers::sign;
 
-// Which words stand in a column; in one of numbers none do.
+// Which words stand in a column.
 #[derive(Clone, Copy)]
 pub enum Words {
-    No,
     Service,
     PaymentType,
     Region,
 }
 
-impl Words {
-    pub fn are_none(self) -> bool
-        ensures { result ≡ are_none self }
-    {
-        match self {
-            Words::No => true,
-            Words::Service => false,
-            Words::PaymentType => false,
-            Words::Region => false,
-        }
-    }
-}
-
-// How a column's fields are spelled, and which are in its range. A charge is at most 0, and held by its size.
+// How a column's fields are spelled, and which are in its range: words or, where there are none, numbers. A charge is at most 0, and held by its size.
 #[derive(Clone, Copy)]
 pub struct Form {
-    pub words: Words,
+    pub words: Option<Words>,
     pub charge: bool,
     pub decimals: usize,
     pub least: u64,
@@ -47,7 +32,7 @@ impl Form {
         ensures { result ≡ number_form decimals least most }
     {
         Form {
-            words: Words::No,
+            words: None,
             charge: false,
             decimals,
             least,
@@ -59,7 +44,7 @@ impl Form {
         ensures { result ≡ charge_form decimals most }
     {
         Form {
-            words: Words::No,
+            words: None,
             charge: true,
             decimals,
             least: 0,
@@ -71,7 +56,7 @@ impl Form {
         ensures { result ≡ word_form words most }
     {
         Form {
-            words,
+            words: Some(words),
             charge: false,
             decimals: 0,
             least: 0,
@@ -116,26 +101,15 @@ pub fn end_of(column: usize) -> u8
 // ---- words
 
 // The word of a number.
-pub fn word_of(words: Words, x: u64) -> Word
+pub fn word_of(words: Option<Words>, x: u64) -> &'static [u8]
     requires { Among words x }
-    ensures { Has (word_in words x) result }
+    ensures { (result.now ≡ word_in words x) × (length result.now ≤ 12) }
 {
     match words {
-        Words::No => market::restart(),
-        Words::Service => market::restart(),
-        Words::PaymentType => PaymentType::of(x as u8).name(),
-        Words::Region => Region::of(x as u8).name(),
+        None | Some(Words::Service) => market::restart(),
+        Some(Words::PaymentType) => PaymentType::of(x as u8).name(),
+        Some(Words::Region) => Region::of(x as u8).name(),
     }
-}
-
-fn put_letters(text: &mut [u8], at: usize, w: Word) -> usize
-    requires has { Has (letters_of w) w }
-    requires w_in_bounds { at + length (letters_of w) ≤ length text.old }
-    ensures { Wrote text.old at (letters_of w) text.new result }
-{
-    let letters = w.letters;
-    let n = w.count;
-    words::put_word(text, at, &letters[..n])
 }
 
 // ---- a field, in any column
@@ -145,23 +119,22 @@ fn put_spelled(text: &mut [u8], at: usize, f: Form, x: u64) -> usize
     requires x_in_bounds { at + length (spelled f x) ≤ length text.old }
     ensures { Wrote text.old at (spelled f x) text.new result }
 {
-    let words = f.words;
-    if words.are_none() {
-        return decimal::put_signed(text, at, sign::signed(f.charge, x), f.decimals);
+    match f.words {
+        None => decimal::put_signed(text, at, sign::signed(f.charge, x), f.decimals),
+        Some(kind) => words::put_word(text, at, word_of(Some(kind), x)),
     }
-    put_letters(text, at, word_of(words, x))
 }
 
+// How many bytes that is: a number tells its length and a word has it. One function for both would need a trait of three methods for two calls.
 fn spelled_length(f: Form, x: u64) -> usize
     requires x_bound { (x < 2 ^ 63) × Among f.words x }
     requires decimals_bound { f.decimals ≤ 20 }
     ensures { (result ≡ length (spelled f x)) × (result ≤ 42) }
 {
-    let words = f.words;
-    if words.are_none() {
-        return decimal::signed_length(sign::signed(f.charge, x), f.decimals);
+    match f.words {
+        None => decimal::signed_length(sign::signed(f.charge, x), f.decimals),
+        Some(words) => word_of(Some(words), x).len(),
     }
-    word_of(words, x).count
 }
 
 // The field of a column, and the byte behind it; the answer is where it ends.

@@ -1,4 +1,5 @@
 -- A column's word, where it stands with the byte behind it. No two words of one column have the same first letter. Assumes nothing.
+use Rattle.std.specs.Prelude.{Some}
 use Prim.Native.Nat.{ℕ, zero, suc, ◌+◌, ◌≤◌, ◌<◌}
 use mathlib.Core.Path.{◌≡◌, refl, sym, ap, ◌∙◌}
 use mathlib.Core.Bool.{Bool, true, false, cond, true≢false, false≢true}
@@ -9,44 +10,42 @@ use borrow.Author.Tests.{eqb-true, eqb-false}
 use lib.Dec.{eqb}
 use lib.ListN.{length, length-append}
 use mathlib.Core.Logic.{⊎_elim}
+use Rattle.std.specs.Prelude.{Some}
 use Rattle.sections.proofs.Search.{lt_or_ge}
 use Rattle.ground.specs.Bytes.{byte_at}
 use Rattle.ground.proofs.Part.{part_byte}
-use Rattle.market.specs.Words.{letters_of, Has}
-use Rattle.market.specs.declared.Word.{Word}
-use Rattle.decimal.specs.Standing.{Stands, Decides}
-use Rattle.decimal.proofs.Standing.{decides_none, decides_one, stands_two, stands_first, stands_rest, stands_one, stands_byte, stands_within}
+use Rattle.decimal.specs.Standing.{Stands}
+use Rattle.decimal.proofs.Standing.{stands_two, stands_first, stands_rest, stands_one, stands_byte, stands_within}
 use Rattle.decimal.proofs.Reading.{byte_within}
 use Rattle.words.specs.Inner.Tells.{Tells}
 use Rattle.columns.specs.Inner.Cells.{Among, word_in}
 use Rattle.columns.specs.declared.Words.{Words}
-use Rattle.columns.specs.declared.Words.TheVariants.{No, Service, PaymentType, Region}
+use Rattle.columns.specs.declared.Words.TheVariants.{Service, PaymentType, Region}
 use Rattle.columns_reading.specs.Inner.Taking.{LettersTo, word_to, WordTo}
 
 -- ---- the letters of a word and the byte behind them
 
-module _ (w : Word) (end : ℕ) (s : List ℕ) (k : ℕ) where
-  pub letters_none : {t : Bool} → Tells (letters_of w) s k t → t ≡ false → LettersTo w end s k false
+module _ (w : List ℕ) (end : ℕ) (s : List ℕ) (k : ℕ) where
+  pub letters_none : {t : Bool} → Tells w s k t → t ≡ false → LettersTo w end s k false
   letters_none c h =
-      record { yes = λ q. absurd (false≢true q); no = λ q p. c.no h (stands_first (letters_of w) (end ∷ []) p) }
+      record { yes = λ q. absurd (false≢true q); no = λ q p. c.no h (stands_first w (end ∷ []) p) }
 
-  module _ {n : ℕ} (long : n ≡ length (letters_of w)) (some : 1 ≤ n) {t : Bool} (c : Tells (letters_of w) s k t) (h : t ≡ true) where
+  module _ {n : ℕ} (long : n ≡ length w) (some : 1 ≤ n) {t : Bool} (c : Tells w s k t) (h : t ≡ true) where
     pub letters_within : k + n ≤ length s
-    letters_within = omega (arith, long, stands_within (letters_of w) (omega (arith, long)) (c.yes h))
+    letters_within = omega (arith, long, stands_within w (omega (arith, long)) (c.yes h))
 
     pub letters_told : 0 < end → {b : ℕ} {u : Bool} → b ≡ byte_at s (k + n) → u ≡ eqb b end → LettersTo w end s k u
     letters_told l {b} {u} e q = by u q
       where
         by : (t : Bool) → t ≡ eqb b end → LettersTo w end s k t
         by true z =
-            let same : byte_at s (k + length (letters_of w)) ≡ end = rw long at (sym e ∙ eqb-true b end (sym z)) in
+            let same : byte_at s (k + length w) ≡ end = rw long at (sym e ∙ eqb-true b end (sym z)) in
             record { yes = λ q. stands_two (c.yes h) (stands_one end (byte_within s _ (λ y. omega (arith, same))) same); no = λ q. absurd (true≢false q) }
         by false z =
-            record { yes = λ q. absurd (false≢true q); no = λ q p. eqb-false b end (sym z) (e ∙ ap (λ (m : ℕ). byte_at s (k + m)) long ∙ stands_byte end (stands_rest (letters_of w) (end ∷ []) p)) }
+            record { yes = λ q. absurd (false≢true q); no = λ q p. eqb-false b end (sym z) (e ∙ ap (λ (m : ℕ). byte_at s (k + m)) long ∙ stands_byte end (stands_rest w (end ∷ []) p)) }
 
 -- no word is empty
-pub word_some : (words : Words) (x : ℕ) → Among words x → 1 ≤ length (word_in words x)
-word_some No x h = omega arith
+pub word_some : (words : Words) (x : ℕ) → Among (Some words) x → 1 ≤ length (word_in (Some words) x)
 word_some Service x h = omega arith
 word_some PaymentType zero h = omega arith
 word_some PaymentType (suc zero) h = omega arith
@@ -60,63 +59,56 @@ word_some Region (suc (suc (suc (suc zero)))) h = omega arith
 word_some Region (suc (suc (suc (suc (suc x))))) h = absurd (omega arith)
 
 -- what is asked of it before it is looked for
-pub word_ready : (words : Words) (x : ℕ) {w : Word} → Among words x → Has (word_in words x) w → Has (letters_of w) w × (1 ≤ w.count)
-word_ready words x h n =
-    (record { letters = refl; long = rw n.letters n.long; fits = n.fits }, omega (arith, n.long, word_some words x h))
+pub word_ready : (words : Words) (x : ℕ) {w : List ℕ} → Among (Some words) x → w ≡ word_in (Some words) x → 1 ≤ length w
+word_ready words x h n = omega (arith, ap length n, word_some words x h)
 
 -- ---- word after word: none of the first x stands there
 
 module _ (words : Words) (last end : ℕ) (s : List ℕ) (k : ℕ) where
   pub record NoneOf (x : ℕ) : Type 0 where
-    pub within : x ≤ last + 1
     pub none : (y : ℕ) → y < x → Stands (word_to words end y) s k → ⊥
 
   pub none_yet : NoneOf 0
-  none_yet = record { within = omega arith; none = λ y h. absurd (omega arith) }
+  none_yet = record { none = λ y h. absurd (omega arith) }
 
-  module _ (x : ℕ) {w : Word} (named : Has (word_in words x) w) where
-    pub none_more : {t : Bool} → NoneOf x → x ≤ last → LettersTo w end s k t → t ≡ false → NoneOf (x + 1)
-    none_more {t} c h q e = record { within = omega arith; none = λ y l. ⊎_elim (λ b. c.none y b) (λ b. here y (omega arith)) (lt_or_ge y x) }
+  module _ (x : ℕ) {w : List ℕ} (named : w ≡ word_in (Some words) x) where
+    pub none_more : {t : Bool} → NoneOf x → LettersTo w end s k t → t ≡ false → NoneOf (x + 1)
+    none_more {t} c q e = record { none = λ y l. ⊎_elim (λ b. c.none y b) (λ b. here y (omega arith)) (lt_or_ge y x) }
       where
         here : (y : ℕ) → y ≡ x → Stands (word_to words end y) s k → ⊥
-        here y o p = q.no e (rw named.letters (rw o at p))
+        here y o p = q.no e (rw named (rw o at p))
 
-    pub word_found : {t : Bool} → x ≤ last → LettersTo w end s k t → t ≡ true → Decides (WordTo words last end s k) true x (k + w.count + 1)
+    pub word_found : {t : Bool} → x < last + 1 → LettersTo w end s k t → t ≡ true → WordTo words last end s k x (k + length w + 1)
     word_found h q e =
-        decides_one
-        (record {
-          fine = h;
-          stands = rw named.letters at (q.yes e);
-          ends = rw length-append (omega (arith, named.long));
-        })
+        record {
+          fine = omega arith;
+          stands = rw named at (q.yes e);
+          ends = rw length-append (omega (arith, ap length named));
+        }
 
-    pub word_fits : {t : Bool} → LettersTo w end s k t → t ≡ true → k + w.count + 1 ≤ length s
+    pub word_fits : {t : Bool} → LettersTo w end s k t → t ≡ true → k + length w + 1 ≤ length s
     word_fits q e =
-        let l = length-append (letters_of w) (end ∷ []) in
-        omega (arith, l, ap length named.letters, named.long, stands_within (letters_of w ++ (end ∷ [])) (omega (arith, l)) (q.yes e))
+        let l = length-append w (end ∷ []) in
+        omega (arith, l, stands_within (w ++ (end ∷ [])) (omega (arith, l)) (q.yes e))
 
-  pub word_none : {x : ℕ} → NoneOf x → last < x → Decides (WordTo words last end s k) false 0 0
-  word_none {x} c h = decides_none 0 0 (λ y e t. c.none y (omega (arith, t.fine)) t.stands)
+  pub word_none : {x : ℕ} → NoneOf x → last + 1 ≤ x → (y e : ℕ) → WordTo words last end s k y e → ⊥
+  word_none c h y e t = c.none y (omega (arith, t.fine)) t.stands
 
 -- ---- a word by its first letter
 
 letter : Words → ℕ → ℕ
-letter No b = 0
 letter Service b = 0
 letter PaymentType b = cond (eqb b 69) 1 (cond (eqb b 67) 2 0)
 letter Region b = cond (eqb b 81) 1 (cond (eqb b 83) 2 (cond (eqb b 84) 3 (cond (eqb b 86) 4 0)))
 
 -- the numbers of a column's words
 unfoldable pub Few : Words → ℕ → Type 0
-Few No last = last < 1
 Few Service last = last < 1
 Few PaymentType last = last < 3
 Few Region last = last < 5
 
 by_letter : (words : Words) (end x : ℕ) → Few words x → (letter words (byte_at (word_to words end x) 0) ≡ x) × (1 ≤ length (word_to words end x))
 unfolding letter Few
-by_letter No end zero h = (refl, omega arith)
-by_letter No end (suc x) h = absurd (omega arith)
 by_letter Service end zero h = (refl, omega arith)
 by_letter Service end (suc x) h = absurd (omega arith)
 by_letter PaymentType end zero h = (refl, omega arith)
@@ -132,7 +124,6 @@ by_letter Region end (suc (suc (suc (suc (suc x))))) h = absurd (omega arith)
 
 fewer : (words : Words) (x last : ℕ) → x ≤ last → Few words last → Few words x
 unfolding Few
-fewer No x last h f = omega arith
 fewer Service x last h f = omega arith
 fewer PaymentType x last h f = omega arith
 fewer Region x last h f = omega arith

@@ -2,35 +2,34 @@
 use Prim.Native.Nat.{ℕ, ◌+◌, ◌*◌, ◌≤◌, ◌<◌}
 use mathlib.Core.Path.{◌≡◌, refl, sym, ap, ap₂, ◌∙◌}
 use mathlib.Core.Bool.{Bool, true, false, cond}
-use mathlib.Core.List.{List, []}
+use mathlib.Core.List.{[]}
 use mathlib.Core.Logic.{⊎_elim}
 use borrow.Author.Tests.{eq-eqb, ne_eqb, eqb-true, eqb-false, leb-true}
 use lib.Dec.{eqb, leb}
+use mir.Val.{bool_byte}
 use lib.ListN.{length, length-append}
 use native.Mathlib.Omega.{arith}
 use native.Mathlib.Nat.{eq-or-lt_of_le}
-use Rattle.ground.specs.Bytes.{part_from}
 use Rattle.sections.specs.Search.{all}
 use Rattle.sections.specs.Total.{total, keyed}
+use Rattle.sections.specs.Inner.Tests.{AnswersAs}
 use Rattle.sections.specs.Inner.Walk.{Under, Sought}
 use Rattle.sections.proofs.Cases.{is_zero, cond_same}
 use Rattle.sections.proofs.Walk.{under_later}
-use Rattle.sections.proofs.Total.{total_none, total_more, total_all, total_bound, total_zero, total_same, total_plus, total_swap, total_only, total_five, keyed_hit, keyed_miss}
+use Rattle.sections.proofs.Total.{total_none, total_more, total_bound, total_zero, total_same, total_plus, total_swap, total_only, keyed_hit, keyed_miss}
 use Rattle.sections.proofs.Search.{lt_or_ge, all_each}
 use Rattle.rules.specs.Rules.{factor_of}
-use Rattle.records.specs.Rows.{entry_row, constraint_row, unit_row, contract_row}
-use Rattle.records.specs.declared.rows.Entry.{Entry}
 use Rattle.records.specs.declared.rows.Constraint.{Constraint}
 use Rattle.records.specs.declared.rows.UnitRow.{UnitRow}
 use Rattle.records.specs.declared.rows.Contract.{Contract}
 use Rattle.factors.specs.Naming.{id_of, key_of}
 use Rattle.locking.specs.Locking.{settled_by}
+use Rattle.locking.specs.declared.Source.{Source}
+use Rattle.records.specs.declared.rows.Entry.{Entry}
 use Rattle.amounts.specs.Pools.{pools_of, residual_pools}
 use Rattle.accounts.specs.Rows.{joined}
-use Rattle.accounts.proofs.Joined.{joined_none, joined_more, joined_all, joined_length}
-use Rattle.book.specs.Book.{book_in}
-use Rattle.book.specs.Header.{units_from, contracts_from}
-use Rattle.book.specs.declared.header.Header.{Header}
+use Rattle.accounts.proofs.Joined.{joined_length}
+use Rattle.book.specs.Book.{Book}
 use Rattle.lines.specs.Lines.{region_lines}
 use Rattle.groups.specs.Inner.Each.{each_of, region_each}
 use Rattle.lines.specs.Inner.Walks.{own_lines, unit_lines_at, con_lines, con_lines_at, contract_lines_at, totals_from, own_from, book_lines}
@@ -61,18 +60,23 @@ module _ (unit : ℕ → UnitRow) (account : ℕ) (r : Constraint) (u : ℕ) whe
       ∙ ap (λ (x : ℕ). cond (eqb (key_of unit u) r.id) x 0)
       (choice_length (eqb (unit u).account account) _ [] ∙ ap (λ (x : ℕ). cond (eqb (unit u).account account) x 0) (unit_length r (pools_of r) (unit u)))
 
-pub own_told : (unit : ℕ → UnitRow) (account u : ℕ) {q : UnitRow} {x : ℕ} → q ≡ unit u → x ≡ cond (eqb q.account account) 1 0 → x ≡ own_row unit account u
+-- a test as a number
+byte_is : (t : Bool) → bool_byte t ≡ cond t 1 0
+byte_is true = refl
+byte_is false = refl
+
+byte_one : (t : Bool) → bool_byte t ≤ 1
+byte_one true = omega arith
+byte_one false = omega arith
+
+pub own_told : (unit : ℕ → UnitRow) (account u : ℕ) {q : UnitRow} {x : ℕ} → q ≡ unit u → x ≡ bool_byte (eqb q.account account) → (x ≡ own_row unit account u) × (x ≤ 1)
 unfolding own_row
-own_told unit account u e f = rw e at f
+own_told unit account u {q} e f = (rw e at (f ∙ byte_is (eqb q.account account)), rw f (byte_one (eqb q.account account)))
 
 -- no more rows are the account's than there are
 own_few : (unit : ℕ → UnitRow) (account m : ℕ) → total (own_row unit account) m ≤ m
 unfolding own_row
-own_few unit account m = omega (arith, total_bound (own_row unit account) 1 m (λ u l. by (eqb (unit u).account account)))
-  where
-    by : (t : Bool) → cond t 1 0 ≤ 1
-    by true = omega arith
-    by false = omega arith
+own_few unit account m = omega (arith, total_bound (own_row unit account) 1 m (λ u l. rw (← byte_is (eqb (unit u).account account)) (byte_one (eqb (unit u).account account))))
 
 -- ---- a constraint
 
@@ -103,9 +107,6 @@ module _ (con : ℕ → Constraint) (n : ℕ) (unit : ℕ → UnitRow) (m accoun
       let row = total_zero (λ j. count_in unit account (con j) u) n (λ j l. other unit account (con j) u (rw e at d)) in
       let more = total_more (row_count con n unit account) u h.lines row in
       record { lines = omega (arith, more); few = omega (arith, h.few) }
-
-  pub units_all : (u k : ℕ) {x : ℕ} → u ≤ k → k ≤ u → UnitsCounted con n unit account u x → UnitsCounted con n unit account k x
-  units_all u k a b h = record { lines = total_all _ u k h.lines (omega arith); few = omega (arith, h.few) }
 
   module _ (h : Countable con n unit m) where
     -- a key's place among the ids is that of the constraint that it names
@@ -188,49 +189,32 @@ module _ (con : ℕ → Constraint) (n : ℕ) (unit : ℕ → UnitRow) (m accoun
 
 -- ---- a contract, and all
 
-region_told : (entry own : ℕ → Entry) (k : Contract) (g : ℕ) {x : ℕ} → x ≡ region_each (factor_of k.factors g) → x ≡ length (region_lines entry own k g)
-region_told entry own k g e = e ∙ sym (region_length entry own k g)
-
-pub contract_counted : (k : Contract) {a b c d e : ℕ} → a ≡ region_each (factor_of k.factors 0) → b ≡ region_each (factor_of k.factors 1) → c ≡ region_each (factor_of k.factors 2) → d ≡ region_each (factor_of k.factors 3) → e ≡ region_each (factor_of k.factors 4) → a + b + c + d + e ≤ 10 → ContractCounted k (a + b + c + d + e)
-contract_counted k p q r s t l =
+pub contract_counted : (k : Contract) {x : ℕ} → x ≡ total (λ g. region_each (factor_of k.factors g)) 5 → x ≤ 10 → ContractCounted k x
+contract_counted k e l =
     record {
-      lines = λ entry own. (
-          let five = joined_length (region_lines entry own k) 5 ∙ total_five (λ g. length (region_lines entry own k g)) in
-          omega (arith, five, region_told entry own k 0 p, region_told entry own k 1 q, region_told entry own k 2 r, region_told entry own k 3 s, region_told entry own k 4 t)
-          );
+      lines = λ entry own. e ∙ sym (joined_length (region_lines entry own k) 5 ∙ total_same _ _ 5 (λ g j. region_length entry own k g));
       few = l;
     }
 
 module _ (contract : ℕ → Contract) where
-  pub contracts_none : ContractsCounted contract 0 0
-  contracts_none = record { lines = λ entry own. rw (joined_none (contract_lines_at entry own contract)); few = omega arith }
-
-  pub contracts_more : (i : ℕ) {x y : ℕ} {k : Contract} → ContractsCounted contract i x → k ≡ contract i → ContractCounted k y → ContractsCounted contract (i + 1) (x + y)
+  contract_told : (i : ℕ) {x : ℕ} → ContractCounted (contract i) x → (entry own : Source → ℕ → Entry) → x ≡ length (contract_lines_at entry own contract i)
   unfolding contract_lines_at
-  contracts_more i {x} {y} {k} h e c =
+  contract_told i c entry own = c.lines (entry (settled_by (contract i))) (own (settled_by (contract i)))
+
+  -- a number for each, of which x is the sum
+  pub contracts_counted : (n : ℕ) {x : ℕ} (one : ℕ → ℕ → Type 0) → ((i y : ℕ) → i < n → one i y → ContractCounted (contract i) y) → ((f : ℕ → ℕ) → AnswersAs one n f → x ≡ total f n) → ((b : ℕ) → ((i y : ℕ) → i < n → one i y → y ≤ b) → x ≤ n * b) → ContractsCounted contract n x
+  contracts_counted n one h sum bound =
       record {
-        lines = λ entry own. (
-            let both = length-append (joined (contract_lines_at entry own contract) i) (contract_lines_at entry own contract i) in
-            let row : y ≡ length (contract_lines_at entry own contract i) = rw e at (c.lines (entry (settled_by k)) (own (settled_by k))) in
-            rw (← joined_more (contract_lines_at entry own contract) i) (omega (arith, h.lines entry own, row, both))
-            );
-        few = omega (arith, h.few, c.few);
+        lines = λ entry own. sum (λ i. length (contract_lines_at entry own contract i)) (λ i y l e. contract_told i (h i y l e) entry own) ∙ sym (joined_length (contract_lines_at entry own contract) n);
+        few = bound 10 (λ i y l e. (h i y l e).few);
       }
 
-  pub contracts_all : (i n : ℕ) {x : ℕ} → i ≤ n → n ≤ i → ContractsCounted contract i x → ContractsCounted contract n x
-  contracts_all i n a b h =
-      record { lines = λ entry own. h.lines entry own ∙ ap length (joined_all (contract_lines_at entry own contract) i n a b); few = omega (arith, h.few) }
+-- ---- a book: its constraints' lines and then its contracts'
 
--- ---- a book; u and k are where the unit rows and the contracts start
-
-module _ (b : List ℕ) (h : Header) (account u : ℕ) (e : u ≡ units_from h) where
-  pub countable_at : Countable (book_in b h).constraint h.constraints (book_in b h).unit h.units → Countable (constraint_row (part_from 84 b)) h.constraints (unit_row (part_from u b)) h.units
-  countable_at c = rw e c
-
-  pub book_counted : (k : ℕ) {x y : ℕ} → k ≡ contracts_from h → h.constraints ≤ 64 → h.contracts ≤ 16 → ConstraintsCounted (constraint_row (part_from 84 b)) h.constraints (unit_row (part_from u b)) h.units account x → ContractsCounted (contract_row (part_from k b)) h.contracts y → BookCounted (book_in b h) account (x + y)
-  unfolding book_lines
-  book_counted k f m n c d =
-      record {
-        lines = λ L own. rw length-append (ap₂ ◌+◌ (rw e at (c.lines (entry_row (part_from 24 b)) own.current)) (rw f at (d.lines (totals_from (entry_row (part_from 24 b)) L.entry) (own_from own))));
-        few = omega (arith, c.few, d.few);
-      }
+pub book_counted : (B : Book) (account : ℕ) {x y : ℕ} → B.header.contracts ≤ 16 → ConstraintsCounted B.constraint B.header.constraints B.unit B.header.units account x → ContractsCounted B.contract B.header.contracts y → BookCounted B account (x + y)
+unfolding book_lines
+book_counted B account n c d =
+    record {
+      lines = λ L own. rw length-append (ap₂ ◌+◌ (c.lines B.entry own.current) (d.lines (totals_from B.entry L.entry) (own_from own)));
+      few = omega (arith, n, c.few, d.few);
+    }

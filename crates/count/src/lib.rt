@@ -5,12 +5,11 @@ ghost use Rattle.std.specs.Prelude.{◌≡◌, cond, ◌+◌, ◌*◌, ◌≤◌
 ghost use Rattle.sections.specs.Search.{all};
 ghost use Rattle.sections.specs.Total.{total};
 ghost use Rattle.records.specs.Rows.{constraint_row, unit_row, contract_row};
-ghost use Rattle.book.specs.Book.{book_in};
-ghost use Rattle.book.specs.Inner.Facts.{Laid};
+ghost use Rattle.book.specs.Laid.{book_at};
 ghost use Rattle.groups.specs.Inner.Each.{each_of};
 ghost use Rattle.count.specs.Inner.Counts.{own_row, UnitsCounted, Countable, MetAt, ConstraintsCounted, ContractCounted, ContractsCounted, BookCounted};
 
-use book::header::Header;
+use book::laid::LaidBook;
 use factors::naming;
 use market::Mode;
 use records::rows;
@@ -50,33 +49,21 @@ fn row_by_row(cons: &[u8], n: usize, units: &[u8], m: usize, account: u32) -> us
         cursor: 0,
         lines: 0,
     };
-    let mut u = 0;
-    while u < m {
+    for u in 0..m {
         met = with_row(cons, n, units, m, u, met, account);
-        u += 1;
     }
     met.lines
 }
 
-fn one_if(test: bool) -> usize
-    ensures { (result ≡ cond test 1 0) × (result ≤ 1) }
-{
-    if test { 1 } else { 0 }
-}
-
 // How many unit rows are the account's, counted without a branch.
 fn own_rows(units: &[u8], m: usize, account: u32) -> usize
-    requires { m * 20 ≤ length units.now }
+    requires { (m * 20 ≤ length units.now) × (m ≤ 600) }
     ensures { (result ≡ total (own_row (unit_row units.now) account) m) × (result ≤ m) }
 {
-    let mut own = 0;
-    let mut i = 0;
-    while i < m {
-        let q = rows::unit_row(units, i);
-        own += one_if(q.account == account);
-        i += 1;
-    }
-    own
+    sections::sum(
+        m,
+        |u| usize::from(rows::unit_row(units, u).account == account),
+    )
 }
 
 // Whether no constraint is of mode 2.
@@ -84,14 +71,7 @@ fn none_default(cons: &[u8], n: usize) -> bool
     requires { n * 40 ≤ length cons.now }
     ensures { result ≡ all (λ j. leb (constraint_row cons.now j).mode 1) n }
 {
-    let mut none = true;
-    let mut i = 0;
-    while i < n {
-        let r = rows::constraint_row(cons, i);
-        none = none & (r.mode <= Mode::FACTORED);
-        i += 1;
-    }
-    none
+    sections::all(n, |j| rows::constraint_row(cons, j).mode <= Mode::FACTORED)
 }
 
 // The lines of the account's unit rows. Where no constraint is of mode 2 each row has three, whichever it names.
@@ -111,13 +91,7 @@ fn other_lines(cons: &[u8], n: usize) -> usize
     requires { (n * 40 ≤ length cons.now) × (n ≤ 64) }
     ensures { (result ≡ total (λ j. each_of (constraint_row cons.now j)) n) × (result ≤ 192) }
 {
-    let mut lines = 0;
-    let mut j = 0;
-    while j < n {
-        lines += groups::lines_each(rows::constraint_row(cons, j));
-        j += 1;
-    }
-    lines
+    sections::sum(n, |j| groups::lines_each(rows::constraint_row(cons, j)))
 }
 
 // The lines of the n constraints.
@@ -132,12 +106,11 @@ fn constraints(cons: &[u8], n: usize, units: &[u8], m: usize, account: u32) -> u
 fn contract_count(k: Contract) -> usize
     ensures { ContractCounted k result }
 {
-    let f = k.factors;
-    groups::region_count(f[0])
-        + groups::region_count(f[1])
-        + groups::region_count(f[2])
-        + groups::region_count(f[3])
-        + groups::region_count(f[4])
+    let mut lines = 0;
+    for factor in k.factors {
+        lines += groups::region_count(factor);
+    }
+    lines
 }
 
 // The lines of the n contracts.
@@ -145,29 +118,21 @@ fn contracts(contracts: &[u8], n: usize) -> usize
     requires { (n * 36 ≤ length contracts.now) × (n ≤ 16) }
     ensures { ContractsCounted (contract_row contracts.now) n result }
 {
-    let mut lines = 0;
-    let mut i = 0;
-    while i < n {
-        lines += contract_count(rows::contract_row(contracts, i));
-        i += 1;
-    }
-    lines
+    sections::sum(n, |i| contract_count(rows::contract_row(contracts, i)))
 }
 
 // All lines of the account.
-pub fn all_lines(book: &[u8], h: Header, account: u32) -> usize
-    requires laid { Laid book.now h }
-    requires countable { Countable (book_in book.now h).constraint h.constraints (book_in book.now h).unit h.units }
-    ensures { BookCounted (book_in book.now h) account result }
+pub fn all_lines(book: &LaidBook, account: u32) -> usize
+    requires { Countable (book_at book.now).constraint book.now.header.constraints (book_at book.now).unit book.now.header.units }
+    ensures { BookCounted (book_at book.now) account result }
 {
-    let units = h.units_at();
-    let paid = h.contracts_at();
+    let h = book.header;
     let of_constraints = constraints(
-        &book[84..],
+        book.constraints(),
         h.constraints as usize,
-        &book[units..],
+        book.units(),
         h.units as usize,
         account,
     );
-    of_constraints + contracts(&book[paid..], h.contracts as usize)
+    of_constraints + contracts(book.contracts(), h.contracts as usize)
 }

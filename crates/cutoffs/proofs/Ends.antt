@@ -5,19 +5,20 @@ use mathlib.Core.List.{[], List, ◌∷◌}
 use native.Mathlib.Omega.{arith}
 use borrow.Author.Tests.{eq-eqb, ne_eqb}
 use lib.IntN.{ℤ, +ℤ_idr}
-use Rattle.sections.specs.declared.Verdict.{Verdict}
-use Rattle.sections.specs.declared.Verdict.TheVariants as verdict
+use Rattle.std.specs.Prelude.{Option, None, Some, Result, Ok, Err}
+use Rattle.sections.specs.Refusal.{Verdict, refused}
+use Rattle.sections.specs.declared.Refusal.{Refusal}
 use Rattle.records.specs.declared.rows.Constraint.{Constraint}
 use Rattle.records.specs.declared.rows.Contract.{Contract}
 use Rattle.totals.specs.Inner.Energies.{Energies}
 use Rattle.locking.specs.Locking.{settled_by, pick}
 use Rattle.locking.specs.declared.Source.{Source}
-use Rattle.book.specs.Header.{header_of}
-use Rattle.book.specs.declared.header.Header.{Header}
-use Rattle.book.specs.Book.{Book, book_in, book_of}
+use Rattle.book.specs.Book.{Book}
+use Rattle.book.specs.Laid.{book_at}
 use Rattle.book.specs.Table.{verdict}
-use Rattle.book.specs.Inner.Accepted.{SettlesTests, Promise}
-use Rattle.book.proofs.Second.{is_locked}
+use Rattle.book.specs.Inner.Accepted.{Promise}
+use Rattle.verdict.specs.declared.BothBooks.{BothBooks}
+use Rattle.verdict.specs.Accepted.{BothOf}
 use Rattle.accounts.specs.Account.{public_of}
 use Rattle.accounts.specs.Inner.Energies.{energies_of}
 use Rattle.accounts.proofs.Joined.{joined_same}
@@ -32,8 +33,6 @@ use Rattle.balance.specs.declared.places.Place.TheVariants as place
 use Rattle.cutoffs.specs.Cutoffs.{line_stage, unit_stage, share_stage, regulation_stages, constraint_stages, ace_stage, asoe_stage, region_stages, contract_stages, stages_by, stage_at, cut_for, cuts_in, cut_if, cut_of}
 use Rattle.cutoffs.specs.Inner.Shapes.{line_shape, unit_shape, share_shape, regulation_shapes, constraint_shapes, ace_shape, asoe_shape, region_shapes, contract_shapes}
 use Rattle.cutoffs.specs.declared.Cut.{Cut}
-use Rattle.cutoffs.specs.declared.Cutoff.{Cutoff}
-use Rattle.cutoffs.specs.declared.Cutoff.TheVariants as cutoff
 use Rattle.cutoffs.proofs.Numbering.{at_past}
 use Rattle.cutoffs.proofs.Stages.{shares_cut_lem, units_cut, ace_cut, asoe_cut}
 
@@ -41,33 +40,32 @@ use Rattle.cutoffs.proofs.Stages.{shares_cut_lem, units_cut, ace_cut, asoe_cut}
 
 module _ (b l : List ℕ) (number index : ℕ) {v : Verdict} (q : v ≡ verdict b l) where
   -- the book is refused
-  pub end_refused : {n p : ℕ} → v ≡ verdict.Refused n p → cutoff.Refused n p ≡ cut_of b l number index
+  pub end_refused : {e : Refusal} {r : Result Cut Refusal} → v ≡ Err e → r ≡ Err e → r ≡ cut_of b l number index
   unfolding cut_of cut_if
-  end_refused e = rw (sym q ∙ e)
+  end_refused d f = rw (sym q ∙ d) f
 
-  module _ (e : v ≡ verdict.Accepted) {h : Header} (i : h ≡ header_of b) {s : List ℕ} (t : SettlesTests b h l s) where
-    -- it is accepted
-    pub end_cut : {x : Cutoff} → x ≡ cuts_in (book_in b h) (book_of s) number index → x ≡ cut_of b l number index
-    unfolding cut_of cut_if
-    end_cut w = rw (sym q ∙ e) (rw (i, is_locked b l q e i t) at w)
+-- it is accepted: x has the two books
+pub end_cut : (b l : List ℕ) (number index : ℕ) {x : BothBooks} → BothOf b l x → {r : Result Cut Refusal} → r ≡ cuts_in (book_at x.book) (book_at x.second) number index → r ≡ cut_of b l number index
+unfolding cut_of cut_if
+end_cut b l number index t w = rw t.unrefused (rw (t.header, t.book, t.second_header, t.second) at w)
 
 -- ---- the place
 
-module _ (b : List ℕ) (h : Header) (L : Book) (number index : ℕ) {x : Place} (q : PlaceIs (book_in b h).constraint h.constraints h.contracts number x) where
+module _ (B L : Book) (number index : ℕ) {x : Option Place} (q : PlaceIs B.constraint B.header.constraints B.header.contracts number x) where
   -- the number is a constraint's pool
-  pub end_constraint : {j : ℕ} {kind : Kind} → x ≡ place.Constraint j kind → {y : Cutoff} → y ≡ stage_at (constraint_stages (book_in b h) L ((book_in b h).constraint j) kind) index → y ≡ cuts_in (book_in b h) L number index
+  pub end_constraint : {y : Place} → x ≡ Some y → {j : ℕ} {kind : Kind} → y ≡ place.Constraint j kind → {z : Result Cut Refusal} → z ≡ stage_at (constraint_stages B L (B.constraint j) kind) index → z ≡ cuts_in B L number index
   unfolding PlaceIs cuts_in cut_for pools_in public_of constraint_pool stages_by
-  end_constraint e r = let p = rw e at q in rw (p.1.1 (book_in b h).contract) r
+  end_constraint o e r = let p = rw (o, e) at q in rw (p.1.1 B.contract) r
 
   -- it is a contract's
-  pub end_contract : {i : ℕ} → x ≡ place.Contract i → {y : Cutoff} → y ≡ stage_at (contract_stages (book_in b h) L ((book_in b h).contract i)) index → y ≡ cuts_in (book_in b h) L number index
+  pub end_contract : {y : Place} → x ≡ Some y → {i : ℕ} → y ≡ place.Contract i → {z : Result Cut Refusal} → z ≡ stage_at (contract_stages B L (B.contract i)) index → z ≡ cuts_in B L number index
   unfolding PlaceIs cuts_in cut_for pools_in public_of contract_pool stages_by
-  end_contract e r = let p = rw e at q in rw (p.1 (book_in b h).contract) r
+  end_contract o e r = let p = rw (o, e) at q in rw (p.1 B.contract) r
 
   -- it is past the end
-  pub end_15 : x ≡ place.Past → cutoff.Refused 15 0 ≡ cuts_in (book_in b h) L number index
+  pub end_15 : x ≡ None → refused 15 0 ≡ cuts_in B L number index
   unfolding PlaceIs cuts_in cut_for pools_in public_of
-  end_15 e = let p = rw e at q in rw (p (book_in b h).contract)
+  end_15 e = let p = rw e at q in rw (p B.contract)
 
 -- ---- one record's stages are as one pass over the rows meets them
 
@@ -108,7 +106,7 @@ module _ {B L : Book} (p : Promise B L) where
     contract_stages_lem = joined_same _ _ 5 (λ g l. region_stages_lem (settled_by k) g l)
 
   -- those of the contract that was read
-  pub contract_found : {i : ℕ} (index : ℕ) {k : Contract} → k ≡ B.contract i → {x : Cutoff}
+  pub contract_found : {i : ℕ} (index : ℕ) {k : Contract} → k ≡ B.contract i → {x : Result Cut Refusal}
       → x ≡ stage_at (contract_shapes (energies_of (pick (settled_by k) B L)) k) index → x ≡ stage_at (contract_stages B L (B.contract i)) index
   contract_found {i} index e s = rw e at s ∙ ap (λ (l : List Cut). stage_at l index) (sym (contract_stages_lem (B.contract i)))
 
@@ -116,16 +114,16 @@ module _ {B L : Book} (p : Promise B L) where
 
 module _ (B : Book) (kind : Kind) (index : ℕ) {r : Constraint} (j : ℕ) (e : r ≡ B.constraint j) where
   -- regulation
-  pub shape_live : {x : Cutoff} → (r.mode ≡ 0 → ⊥) → x ≡ stage_at (regulation_shapes B r kind) index → x ≡ stage_at (constraint_shapes B (B.constraint j) kind) index
+  pub shape_live : {x : Result Cut Refusal} → (r.mode ≡ 0 → ⊥) → x ≡ stage_at (regulation_shapes B r kind) index → x ≡ stage_at (constraint_shapes B (B.constraint j) kind) index
   unfolding constraint_shapes
   shape_live d s = rw e at s ∙ rw (ne_eqb (B.constraint j).mode 0 (rw e at d))
 
   -- contingency: the one stage
-  pub shape_0 : {E : Energies} {x : Cut} → r.mode ≡ 0 → index ≡ 0 → E ≡ energies_of B → x ≡ line_shape E r → cutoff.Cut x ≡ stage_at (constraint_shapes B (B.constraint j) kind) index
+  pub shape_0 : {E : Energies} {x : Cut} → r.mode ≡ 0 → index ≡ 0 → E ≡ energies_of B → x ≡ line_shape E r → Ok x ≡ stage_at (constraint_shapes B (B.constraint j) kind) index
   unfolding constraint_shapes stage_at
   shape_0 m i q s = rw (s, q, e, eq-eqb (B.constraint j).mode 0 (rw e at m), i)
 
   -- and none behind it
-  pub shape_past : r.mode ≡ 0 → (index ≡ 0 → ⊥) → cutoff.Refused 15 0 ≡ stage_at (constraint_shapes B (B.constraint j) kind) index
+  pub shape_past : r.mode ≡ 0 → (index ≡ 0 → ⊥) → refused 15 0 ≡ stage_at (constraint_shapes B (B.constraint j) kind) index
   unfolding constraint_shapes
   shape_past m d = rw (eq-eqb (B.constraint j).mode 0 (rw e at m)) (sym (at_past (line_shape (energies_of B) (B.constraint j) ∷ []) index (omega (arith, d))))

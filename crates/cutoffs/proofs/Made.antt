@@ -1,8 +1,6 @@
 -- Each stage as its function makes it, from what that was answered. Assumes nothing.
 use Prim.Native.Nat.{ℕ, ◌*◌, ◌^◌, ◌≤◌}
-use mathlib.Core.Path.{◌≡◌, ap, ◌∙◌, subst}
-use mathlib.Core.List.{List}
-use Rattle.ground.specs.Bytes.{part_from}
+use mathlib.Core.Path.{◌≡◌, ◌∙◌, subst}
 use native.Mathlib.Omega.{arith}
 use lib.IntN.{ℤ, nat_abs, ◌-ℤ◌}
 use Rattle.numbers.specs.Round.{round_n, cut_n, Rounds}
@@ -17,17 +15,14 @@ use Rattle.records.specs.declared.rows.Constraint.{Constraint}
 use Rattle.records.specs.declared.rows.Contract.{Contract}
 use Rattle.records.specs.declared.rows.Entry.{Entry}
 use Rattle.totals.specs.Divisors.{over_regions}
-use Rattle.totals.specs.Inner.Energies.{Energies, energies_in}
-use Rattle.totals.specs.declared.entries.EnergyPart.{EnergyPart}
-use Rattle.book.specs.Book.{Book, book_in}
-use Rattle.book.specs.declared.header.Header.{Header}
-use Rattle.accounts.specs.Inner.Energies.{energies_of, PartOf}
-use Rattle.accounts.proofs.Parts.{part_energies}
+use Rattle.totals.specs.Inner.Energies.{Energies}
+use Rattle.book.specs.Book.{Book}
 use Rattle.amounts.specs.Pools.{pool_cuts_by_mode, pool_cuts_of, halves_of}
 use Rattle.amounts.specs.Shares.{cut_by_factor}
 use Rattle.amounts.specs.declared.pools.Halves.{Halves}
 use Rattle.sharing.specs.Inner.Shares.{part_cut, Shareable}
-use Rattle.recovery.specs.ByKind.{rest_above, rest_below}
+use Rattle.sharing.specs.declared.shares.Part.{Part}
+use Rattle.recovery.specs.ByKind.{rest_above, rest_below, factor_above, factor_below}
 use Rattle.recovery.specs.Inner.Shapes.{recovery_of, consumed_part, sent_part, shared_cut}
 use Rattle.recovery.specs.Inner.Units.{CutsAre}
 use Rattle.recovery.specs.Inner.Rests.{CutIs}
@@ -35,7 +30,10 @@ use Rattle.recovery.specs.declared.kinds.Kind.{Kind}
 use Rattle.recovery.specs.declared.kinds.Kind.TheVariants as kind
 use Rattle.recovery.specs.declared.kinds.Recovery.{Recovery}
 use Rattle.cutoffs.specs.Cutoffs.{residual_stage, part_over, whole_stage, half_stage}
-use Rattle.cutoffs.specs.Inner.Shapes.{line_shape, unit_shape, share_shape, ace_shape, asoe_shape}
+use Rattle.cutoffs.specs.Inner.Shapes.{line_shape, unit_shape, share_shape, half_part, ace_shape, asoe_shape}
+use Rattle.cutoffs.specs.declared.contracts.Side.TheVariants.{Consumed, SentOut}
+use Rattle.cutoffs.specs.declared.Stage.{Stage}
+use Rattle.cutoffs.specs.declared.Cut.{Cut}
 use Rattle.cutoffs.specs.declared.Stage.TheVariants.{Line, Unit, Residual, Share, Whole, Half, Ace, Asoe}
 
 -- ---- a constraint's
@@ -53,7 +51,7 @@ used_low r = by (mode_of r)
 
 -- the residual's factor is at most a whole
 pub rest_above_low : (r : Constraint) (k : Kind) → ConstraintRule r → rest_above k r ≤ 1_000_000
-unfolding rest_above
+unfolding factor_above
 rest_above_low r kind.Contingency h = omega arith
 rest_above_low r kind.Fpp h = h.prcf
 rest_above_low r kind.Used h = omega arith
@@ -61,7 +59,7 @@ rest_above_low r kind.Unused h = omega arith
 rest_above_low r kind.Payment h = omega arith
 
 pub rest_below_low : (r : Constraint) (k : Kind) → ConstraintRule r → rest_below k r ≤ 1_000_000
-unfolding rest_below
+unfolding factor_below
 rest_below_low r kind.Contingency h = omega arith
 rest_below_low r kind.Fpp h = h.nrcf
 rest_below_low r kind.Used h = h.nrcf
@@ -87,9 +85,9 @@ pub residual_is : (r : Constraint) (k : Kind) {x : Recovery} {above below : ℕ}
 unfolding residual_stage recovery_of cut_by_factor
 residual_is r k e a b p q c = rw (c, p.cut, q.cut, a, b, e)
 
--- what is cut off by the energies of the part is cut off by the book's
-pub cut_in : (b : List ℕ) (h : Header) {p : EnergyPart} → PartOf h p → {r : Constraint} {amount : ℕ} {x : ℤ} → CutIs (energies_in (part_from 24 b) p) r amount x → CutIs (energies_of (book_in b h)) r amount x
-cut_in b h {p} q {r} {amount} {x} s = subst (λ (E : Energies). CutIs E r amount x) (part_energies b h p q) s
+-- what is cut off by the energies that are lent is cut off by the book's
+pub cut_in : {E F : Energies} → E ≡ F → {r : Constraint} {amount : ℕ} {x : ℤ} → CutIs E r amount x → CutIs F r amount x
+cut_in e {r} {amount} {x} s = subst (λ (E : Energies). CutIs E r amount x) e s
 
 -- residual lines: y and z are what is cut off the two sides of the residual pool
 pub share_is : (E : Energies) (r : Constraint) (k : Kind) {x : Recovery} {whole : ℕ} {y z cut : ℤ} → x ≡ recovery_of r k
@@ -100,9 +98,9 @@ share_is E r k e w y z c = rw (c, y.cut, z.cut, w, e)
 
 -- ---- a contract's in region g
 
--- the mask of the region
-pub bit_is : {number mask g : ℕ} → number ≡ g → mask ≡ 2 ^ number → mask ≡ 2 ^ g
-bit_is e m = m ∙ ap (λ (n : ℕ). 2 ^ n) e
+-- the lines of a half: z is what is cut off its shares
+pub lines_are : {s : Stage} {g whole : ℕ} {cut z : ℤ} → cut ≡ z → ◌≡◌ {A = Cut} (record { stage = s; region = g; divisor = whole; cut = cut }) (record { stage = s; region = g; divisor = whole; cut = z })
+lines_are c = rw c
 
 module _ (k : Contract) (g : ℕ) where
   -- the part of the payment
@@ -115,30 +113,30 @@ module _ (k : Contract) (g : ℕ) where
   unfolding half_stage part_over
   half_is p c = rw (c, p)
 
-  module _ (E : Energies) {x : Halves} {e : Entry} {mask : ℕ} (h : x ≡ halves_of k.payment (factor_of k.factors g)) (i : e ≡ E.entry g) (m : mask ≡ 2 ^ g) where
-    -- the two halves as parts that are shared
-    consumed_is : record { amount = x.consumed; whole = e.ace; mask = mask; basis = basis.Ace } ≡ consumed_part E.entry k g
-    unfolding consumed_part
-    consumed_is = rw (h, i, m)
+  -- the two halves as parts that are shared
+  module _ (entry : ℕ → Entry) {x : Halves} {e : Entry} {number mask : ℕ} (h : x ≡ halves_of k.payment (factor_of k.factors g)) (i : e ≡ entry g) (r : number ≡ g) (m : mask ≡ 2 ^ number) where
+    pub consumed_is : record { amount = x.consumed; whole = e.ace; mask = mask; basis = basis.Ace } ≡ half_part Consumed entry k g
+    unfolding half_part consumed_part
+    consumed_is = rw (h, i, m, r)
 
-    sent_is : record { amount = x.sent; whole = e.asoe; mask = mask; basis = basis.Asoe } ≡ sent_part E.entry k g
-    unfolding sent_part
-    sent_is = rw (h, i, m)
+    pub sent_is : record { amount = x.sent; whole = e.asoe; mask = mask; basis = basis.Asoe } ≡ half_part SentOut entry k g
+    unfolding half_part sent_part
+    sent_is = rw (h, i, m, r)
 
-    -- they can be shared
-    pub consumed_fits : Shareable (consumed_part E.entry k g) E.row E.rows → Shareable (record { amount = x.consumed; whole = e.ace; mask = mask; basis = basis.Ace }) E.row E.rows
-    consumed_fits s = rw consumed_is s
+  -- they can be shared, and make the lines by ACE and by ASOE
+  module _ (E : Energies) {p : Part} where
+    pub consumed_fits : p ≡ half_part Consumed E.entry k g → Shareable (consumed_part E.entry k g) E.row E.rows → Shareable p E.row E.rows
+    unfolding half_part
+    consumed_fits e s = rw e s
 
-    pub sent_fits : Shareable (sent_part E.entry k g) E.row E.rows → Shareable (record { amount = x.sent; whole = e.asoe; mask = mask; basis = basis.Asoe }) E.row E.rows
-    sent_fits s = rw sent_is s
+    pub sent_fits : p ≡ half_part SentOut E.entry k g → Shareable (sent_part E.entry k g) E.row E.rows → Shareable p E.row E.rows
+    unfolding half_part
+    sent_fits e s = rw e s
 
-    -- the lines by ACE, and by ASOE
-    pub ace_is : {cut : ℤ} → cut ≡ part_cut (record { amount = x.consumed; whole = e.ace; mask = mask; basis = basis.Ace }) E.row E.rows
-        → record { stage = Ace; region = g; divisor = e.ace; cut = cut } ≡ ace_shape E k g
-    unfolding ace_shape
-    ace_is c = rw (c, consumed_is, i)
+    pub ace_is : p ≡ half_part Consumed E.entry k g → {c : Cut} → c ≡ record { stage = Ace; region = g; divisor = p.whole; cut = part_cut p E.row E.rows } → c ≡ ace_shape E k g
+    unfolding half_part consumed_part ace_shape
+    ace_is e q = q ∙ rw e
 
-    pub asoe_is : {cut : ℤ} → cut ≡ part_cut (record { amount = x.sent; whole = e.asoe; mask = mask; basis = basis.Asoe }) E.row E.rows
-        → record { stage = Asoe; region = g; divisor = e.asoe; cut = cut } ≡ asoe_shape E k g
-    unfolding asoe_shape
-    asoe_is c = rw (c, sent_is, i)
+    pub asoe_is : p ≡ half_part SentOut E.entry k g → {c : Cut} → c ≡ record { stage = Asoe; region = g; divisor = p.whole; cut = part_cut p E.row E.rows } → c ≡ asoe_shape E k g
+    unfolding half_part sent_part asoe_shape
+    asoe_is e q = q ∙ rw e

@@ -17,7 +17,8 @@ use Rattle.accounts.specs.Rows.{joined}
 use Rattle.cutoffs.specs.Cutoffs.{whole_stage, half_stage, stage_at}
 use Rattle.cutoffs.specs.Inner.Shapes.{ace_shape, asoe_shape, region_shapes, contract_shapes}
 use Rattle.cutoffs.specs.declared.Cut.{Cut}
-use Rattle.cutoffs.specs.declared.Cutoff.TheVariants as cutoff
+use Rattle.std.specs.Prelude.{Ok}
+use Rattle.sections.specs.Refusal.{refused}
 
 -- ---- in two lists, one behind the other
 
@@ -36,7 +37,7 @@ at_back (x ∷ xs) ys zero k e = absurd (omega arith)
 at_back (x ∷ xs) ys (suc i) k e = at_back xs ys i k (omega arith)
 
 -- a number past the end
-pub at_past : (xs : List Cut) (i : ℕ) → length xs ≤ i → stage_at xs i ≡ cutoff.Refused 15 0
+pub at_past : (xs : List Cut) (i : ℕ) → length xs ≤ i → stage_at xs i ≡ refused 15 0
 unfolding stage_at
 at_past [] i l = refl
 at_past (x ∷ xs) zero l = absurd (omega arith)
@@ -46,11 +47,11 @@ at_past (x ∷ xs) (suc i) l = at_past xs i (omega arith)
 
 module _ (t : Bool) (p : Cut) (rest : List Cut) {first : ℕ} (e : first ≡ cond t 1 0) (index : ℕ) where
   -- that one
-  pub first_at : index < first → cutoff.Cut p ≡ stage_at (cond t (p ∷ []) [] ++ rest) index
+  pub first_at : index < first → Ok p ≡ stage_at (cond t (p ∷ []) [] ++ rest) index
   unfolding stage_at
   first_at l = by t e index l
     where
-      by : (t : Bool) → first ≡ cond t 1 0 → (index : ℕ) → index < first → cutoff.Cut p ≡ stage_at (cond t (p ∷ []) [] ++ rest) index
+      by : (t : Bool) → first ≡ cond t 1 0 → (index : ℕ) → index < first → Ok p ≡ stage_at (cond t (p ∷ []) [] ++ rest) index
       by true e zero l = refl
       by true e (suc index) l = absurd (omega arith)
       by false e index l = absurd (omega arith)
@@ -64,7 +65,7 @@ module _ (t : Bool) (p : Cut) (rest : List Cut) {first : ℕ} (e : first ≡ con
       by false e = sym (at_back [] rest index m (omega arith))
 
 -- the three behind it end there
-pub third_past : (u r s : Cut) (m : ℕ) → (m ≡ 0 → ⊥) → (m ≡ 1 → ⊥) → (m ≡ 2 → ⊥) → cutoff.Refused 15 0 ≡ stage_at (u ∷ r ∷ s ∷ []) m
+pub third_past : (u r s : Cut) (m : ℕ) → (m ≡ 0 → ⊥) → (m ≡ 1 → ⊥) → (m ≡ 2 → ⊥) → refused 15 0 ≡ stage_at (u ∷ r ∷ s ∷ []) m
 third_past u r s m a b c = sym (at_past (u ∷ r ∷ s ∷ []) m (omega (arith, a, b, c)))
 
 -- ---- a contract's: four in each region that it benefits
@@ -133,7 +134,7 @@ module _ (E : Energies) (k : Contract) where
         by false q f = (eqb-false (factor_of k.factors g) 0 q, omega arith)
 
     -- and stands there among all
-    pub reach_found : left < stages → {x : Cut} → cutoff.Cut x ≡ stage_at (region_shapes E k g) left → cutoff.Cut x ≡ stage_at (contract_shapes E k) index
+    pub reach_found : left < stages → {x : Cut} → Ok x ≡ stage_at (region_shapes E k g) left → Ok x ≡ stage_at (contract_shapes E k) index
     unfolding contract_shapes joined
     reach_found m {x} q =
         q
@@ -141,7 +142,7 @@ module _ (E : Energies) (k : Contract) where
         ∙ sym (prefix (suc g) 5 index (omega arith) (omega (arith, h.before, longer g)))
 
   -- past the last region
-  pub reach_end : {index g left : ℕ} → Reached index g left → 5 ≤ g → cutoff.Refused 15 0 ≡ stage_at (contract_shapes E k) index
+  pub reach_end : {index g left : ℕ} → Reached index g left → 5 ≤ g → refused 15 0 ≡ stage_at (contract_shapes E k) index
   unfolding contract_shapes
   reach_end {index} {g} {left} h l =
       let e : g ≡ 5 = omega (arith, h.within) in

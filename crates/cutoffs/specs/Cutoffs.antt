@@ -2,11 +2,11 @@
 -- contract." A cut-off part is exact less rounded of the quotient inside 01's round( ), over its divisor; where 01 writes -round( ), the line is minus
 -- the whole number and what was cut off stays as it is. Each stage is over the very numbers that the lines are made of (lines/specs/Lines.antt,
 -- settlement/specs/Settle.antt).
-use Rattle.std.specs.Prelude.{ℕ, zero, suc, ◌*◌, cond, List, [], ◌∷◌, ◌++◌, eqb, ℤ, pos, neg_ℤ}
+use Rattle.std.specs.Prelude.{ℕ, zero, suc, ◌*◌, cond, List, [], ◌∷◌, ◌++◌, eqb, ℤ, pos, neg_ℤ, Result, Ok, Err}
 use Rattle.numbers.specs.Round.{round_n, cut_n}
 use Rattle.ground.specs.Units.{million}
-use Rattle.sections.specs.declared.Verdict.{Verdict}
-use Rattle.sections.specs.declared.Verdict.TheVariants as verdict
+use Rattle.sections.specs.Refusal.{Verdict, refused}
+use Rattle.sections.specs.declared.Refusal.{Refusal}
 use Rattle.rules.specs.Rules.{factor_of}
 use Rattle.records.specs.declared.rows.Constraint.{Constraint}
 use Rattle.records.specs.declared.rows.UnitRow.{UnitRow}
@@ -28,8 +28,6 @@ use Rattle.cutoffs.specs.declared.Stage.{Stage}
 use Rattle.cutoffs.specs.declared.Stage.TheVariants.{Line, Unit, Residual, Share, Whole, Half, Ace, Asoe}
 use Rattle.cutoffs.specs.declared.Stage.TheVariants as stage
 use Rattle.cutoffs.specs.declared.Cut.{Cut}
-use Rattle.cutoffs.specs.declared.Cutoff.{Cutoff}
-use Rattle.cutoffs.specs.declared.Cutoff.TheVariants as cutoff
 
 -- ---- a constraint's stages; L is the book that test payments are settled by
 
@@ -142,24 +140,24 @@ abbrev pub stages_in : Book → Book → Pool → List Cut
 stages_in B L p = stages_by B L p.source p.kind
 
 -- 15: "past the end"
-unfoldable pub stage_at : List Cut → ℕ → Cutoff
-stage_at [] index = cutoff.Refused 15 0
-stage_at (c ∷ cs) zero = cutoff.Cut c
+unfoldable pub stage_at : List Cut → ℕ → Result Cut Refusal
+stage_at [] index = refused 15 0
+stage_at (c ∷ cs) zero = Ok c
 stage_at (c ∷ cs) (suc index) = stage_at cs index
 
 -- of the pool, and of the stage in it
-unfoldable pub cut_for : Book → Book → Found → ℕ → Cutoff
-cut_for B L past index = cutoff.Refused 15 0
+unfoldable pub cut_for : Book → Book → Found → ℕ → Result Cut Refusal
+cut_for B L past index = refused 15 0
 cut_for B L (found p) index = stage_at (stages_in B L p) index
 
-unfoldable pub cuts_in : Book → Book → ℕ → ℕ → Cutoff
+unfoldable pub cuts_in : Book → Book → ℕ → ℕ → Result Cut Refusal
 cuts_in B L number index = cut_for B L (pool_at (pools_in (public_of B)) number) index
 
 -- "Numbers 1 to 10 come from every call on a book", and 17 and 18
-unfoldable pub cut_if : Verdict → Cutoff → Cutoff
-cut_if verdict.Accepted x = x
-cut_if (verdict.Refused number place) x = cutoff.Refused number place
+unfoldable pub cut_if : Verdict → Result Cut Refusal → Result Cut Refusal
+cut_if (Ok _) x = x
+cut_if (Err e) x = Err e
 
 -- of the book b, with l lent as the locked one
-unfoldable pub cut_of : List ℕ → List ℕ → ℕ → ℕ → Cutoff
+unfoldable pub cut_of : List ℕ → List ℕ → ℕ → ℕ → Result Cut Refusal
 cut_of b l number index = cut_if (verdict b l) (cuts_in (book_of b) (book_of (locked_for b l)) number index)

@@ -1,21 +1,29 @@
 // The stages of a contract's pool, region by region, by the energies of the book that settles it.
-ghost use Rattle.std.specs.Prelude.{◌≡◌, cond, ◌≤◌, ◌<◌, eqb};
+ghost use Rattle.std.specs.Prelude.{◌≡◌, cond, ◌≤◌, ◌<◌, eqb, Ok};
 ghost use Rattle.ground.specs.Units.{million, money_limit};
 ghost use Rattle.rules.specs.Rules.{factor_of};
-ghost use Rattle.totals.specs.Inner.Energies.{energies_in, PartLaid, EnergiesSound};
+ghost use Rattle.accounts.specs.Inner.Lent.{lent};
+ghost use Rattle.sharing.specs.Inner.Shares.{part_cut, Shareable};
 ghost use Rattle.recovery.specs.Inner.Rests.{PaidBy};
 ghost use Rattle.cutoffs.specs.Cutoffs.{whole_stage, half_stage, stage_at};
-ghost use Rattle.cutoffs.specs.Inner.Shapes.{ace_shape, asoe_shape, region_shapes, contract_shapes};
-ghost use Rattle.cutoffs.specs.declared.Cutoff.TheVariants as cutoff;
+ghost use Rattle.cutoffs.specs.Inner.Shapes.{half_part, region_shapes, contract_shapes};
 
-use crate::{Cut, Cutoff, Stage};
+use crate::{Cut, Stage};
+use accounts::energies::BookEnergies;
 use amounts::{pools, shares};
 use market::{Basis, Region};
 use records::rows;
 use records::rows::Contract;
 use recovery::regions;
+use sections::Refusal;
 use sharing::shares::Part;
-use totals::entries::EnergyPart;
+
+// The halves of a region's part of the payment.
+#[derive(Clone, Copy)]
+enum Side {
+    Consumed,
+    SentOut,
+}
 
 // The region's part of the payment.
 fn whole(k: Contract, g: usize) -> Cut
@@ -48,84 +56,56 @@ fn half(k: Contract, g: usize) -> Cut
     }
 }
 
-// The lines by ACE: a share of the consumed half for each account.
-fn by_ace(bytes: &[u8], e: EnergyPart, k: Contract, g: usize) -> Cut
-    requires part_laid { PartLaid bytes.now e }
-    requires energies_sound { EnergiesSound (energies_in bytes.now e) }
-    requires paid_by { PaidBy (energies_in bytes.now e).entry k × ((g < 5) × (factor_of k.factors g ≡ 0 → ⊥)) }
-    ensures { result ≡ ace_shape (energies_in bytes.now e) k g }
+// The lines of a half in a region: a share of it for each account.
+fn lines(e: BookEnergies, g: usize, stage: Stage, p: Part) -> Cut
+    requires { Shareable p (lent e).row (lent e).rows × (g < 5) }
+    ensures { result ≡ record { stage = stage; region = g; divisor = p.whole; cut = part_cut p (lent e.entry).row (lent e.entry).rows } }
 {
-    let factors = k.factors;
-    let amount = pools::halves_of(k.payment, factors[g]).consumed;
-    let whole = rows::entry_row(bytes, g).ace as u64;
-    let mask = Region::of(g as u8).bit();
-    let basis = Basis::Ace;
-    let cut = regions::shared_cut(
-        bytes,
-        e,
-        Part {
-            amount,
-            whole,
-            mask,
-            basis,
-        },
-    );
     Cut {
-        stage: Stage::Ace,
+        stage,
         region: g as u8,
-        divisor: whole,
-        cut,
+        divisor: p.whole,
+        cut: regions::shared_cut(e, p),
     }
 }
 
-// The lines by ASOE: a share of the sent-out half for each account.
-fn by_asoe(bytes: &[u8], e: EnergyPart, k: Contract, g: usize) -> Cut
-    requires part_laid { PartLaid bytes.now e }
-    requires energies_sound { EnergiesSound (energies_in bytes.now e) }
-    requires paid_by { PaidBy (energies_in bytes.now e).entry k × ((g < 5) × (factor_of k.factors g ≡ 0 → ⊥)) }
-    ensures { result ≡ asoe_shape (energies_in bytes.now e) k g }
+// A half of a region's part as its lines share it: the consumed one by ACE, the sent-out one by ASOE.
+fn half_part(e: BookEnergies, k: Contract, g: usize, side: Side) -> Part
+    requires { PaidBy (lent e).entry k × (g < 5) }
+    ensures { result ≡ half_part side (lent e.entry).entry k g }
 {
     let factors = k.factors;
-    let amount = pools::halves_of(k.payment, factors[g]).sent;
-    let whole = rows::entry_row(bytes, g).asoe as u64;
+    let x = pools::halves_of(k.payment, factors[g]);
+    let entry = rows::entry_row(e.bytes, g);
     let mask = Region::of(g as u8).bit();
-    let basis = Basis::Asoe;
-    let cut = regions::shared_cut(
-        bytes,
-        e,
-        Part {
-            amount,
-            whole,
+    match side {
+        Side::Consumed => Part {
+            amount: x.consumed,
+            whole: entry.ace as u64,
             mask,
-            basis,
+            basis: Basis::Ace,
         },
-    );
-    Cut {
-        stage: Stage::Asoe,
-        region: g as u8,
-        divisor: whole,
-        cut,
+        Side::SentOut => Part {
+            amount: x.sent,
+            whole: entry.asoe as u64,
+            mask,
+            basis: Basis::Asoe,
+        },
     }
 }
 
 // The stage of a number among the four of a region that the contract benefits.
-fn in_region(bytes: &[u8], e: EnergyPart, k: Contract, g: usize, left: u64) -> Cut
-    requires part_laid { PartLaid bytes.now e }
-    requires energies_sound { EnergiesSound (energies_in bytes.now e) }
-    requires paid_by { PaidBy (energies_in bytes.now e).entry k × ((g < 5) × (factor_of k.factors g ≡ 0 → ⊥)) }
+fn in_region(e: BookEnergies, k: Contract, g: usize, left: u64) -> Cut
+    requires paid_by { PaidBy (lent e).entry k × ((g < 5) × (factor_of k.factors g ≡ 0 → ⊥)) }
     requires left_bound { left < 4 }
-    ensures { cutoff.Cut result ≡ stage_at (region_shapes (energies_in bytes.now e) k g) left }
+    ensures { Ok result ≡ stage_at (region_shapes (lent e.entry) k g) left }
 {
-    if left == 0 {
-        return whole(k, g);
+    match left {
+        0 => whole(k, g),
+        1 => half(k, g),
+        2 => lines(e, g, Stage::Ace, half_part(e, k, g, Side::Consumed)),
+        _ => lines(e, g, Stage::Asoe, half_part(e, k, g, Side::SentOut)),
     }
-    if left == 1 {
-        return half(k, g);
-    }
-    if left == 2 {
-        return by_ace(bytes, e, k, g);
-    }
-    by_asoe(bytes, e, k, g)
 }
 
 // How many stages a region has.
@@ -136,22 +116,21 @@ fn stages_in(factor: u32) -> u64
 }
 
 // The stage of a number in a contract's pool.
-pub(crate) fn stage(bytes: &[u8], e: EnergyPart, k: Contract, index: u64) -> Cutoff
-    requires part_laid { PartLaid bytes.now e }
-    requires energies_sound { EnergiesSound (energies_in bytes.now e) }
-    requires paid_by { PaidBy (energies_in bytes.now e).entry k }
-    ensures { result ≡ stage_at (contract_shapes (energies_in bytes.now e) k) index }
+pub(crate) fn stage(e: BookEnergies, k: Contract, index: u64) -> Result<Cut, Refusal>
+    requires { PaidBy (lent e).entry k }
+    ensures { result ≡ stage_at (contract_shapes (lent e.entry) k) index }
 {
     let factors = k.factors;
     let mut left = index;
-    let mut g = 0;
-    while g < Region::COUNT {
+    for g in 0..Region::COUNT {
         let stages = stages_in(factors[g]);
         if left < stages {
-            return Cutoff::Cut(in_region(bytes, e, k, g, left));
+            return Ok(in_region(e, k, g, left));
         }
         left -= stages;
-        g += 1;
     }
-    Cutoff::Refused(15, 0)
+    Err(Refusal {
+        number: 15,
+        place: 0,
+    })
 }

@@ -5,6 +5,9 @@ use mathlib.Core.List.{List, [], ◌∷◌, ◌++◌}
 use mathlib.Core.Bool.{Bool, true, false, true≢false, false≢true}
 use native.Mathlib.Omega.{arith}
 use native.Mathlib.Nat.{add-zero}
+use mir.Syntax.{w64}
+use mir.Val.{SFits, to_z, of_z}
+use mir.Facts.{to_z-of_z}
 use lib.IntN.{ℤ, pos, negsuc, nat_abs}
 use lib.ListN.{length}
 use Rattle.ground.specs.Bytes.{byte_at}
@@ -38,7 +41,14 @@ unfolding signed_text
 signed_short n (pos m) d h = omega (arith, number_short n m d h)
 signed_short n (negsuc m) d h = omega (arith, number_short n (suc m) d h)
 
-module _ (z : ℤ) (d : ℕ) {n : ℕ} {t : Bool} (e : n ≡ nat_abs z) (q : t ≡ negative z) where
+-- n and t are the size and the sign of the number whose bits are those of z
+module _ (z : ℤ) (d : ℕ) (f : SFits w64 z) {n : ℕ} {t : Bool} (size : n ≡ nat_abs (to_z w64 (of_z w64 z))) (sign : t ≡ negative (to_z w64 (of_z w64 z))) where
+  e : n ≡ nat_abs z
+  e = size ∙ ap nat_abs (to_z-of_z f)
+
+  q : t ≡ negative z
+  q = sign ∙ ap negative (to_z-of_z f)
+
   pub minus_length : t ≡ true → length (signed_text z d) ≡ length (number_text n d) + 1
   minus_length h = rw (minus_text d z (sym q ∙ h), e) (omega arith)
 

@@ -1,7 +1,8 @@
 -- What the functions that write digits need to know. Digits are written from the last to the first. Assumes nothing.
-use Prim.Native.Nat.{ℕ, zero, suc, ◌+◌, ◌-◌, ◌*◌, ◌/◌, ◌%◌, ◌^◌, ◌≤◌, ◌<◌}
+use Prim.Native.Nat.{ℕ, zero, suc, max, ◌+◌, ◌-◌, ◌*◌, ◌/◌, ◌%◌, ◌^◌, ◌≤◌, ◌<◌}
 use mathlib.Core.Path.{◌≡◌, refl, sym, ap, ◌∙◌}
 use mathlib.Core.List.{List, [], ◌∷◌, ◌++◌, append-nil}
+use mathlib.Core.Logic.{⊎_elim}
 use native.Mathlib.Omega.{arith}
 use native.Mathlib.Nat.{add-zero, div-one, div-le_self, mod-eq_of_lt}
 use native.Mathlib.Numerals.{add-one}
@@ -10,6 +11,7 @@ use Rattle.ground.specs.Le.{le16}
 use Rattle.ground.specs.Put.{put}
 use Rattle.ground.specs.Inner.Put.{Wrote}
 use Rattle.ground.proofs.Put.{put_length, put_ahead}
+use Rattle.sections.proofs.Search.{lt_or_ge}
 use Rattle.decimal.specs.Decimal.{decimal_of, last_digits, point_text, number_text}
 use Rattle.decimal.specs.Inner.Filled.{Filled}
 use Rattle.decimal.proofs.Spelling.{drop_last, last_front, last_length, all_last, few_digits, some_left, none_left}
@@ -116,11 +118,12 @@ module _ (x d : ℕ) where
 
 -- how many digits it has in all
 module _ (x d n : ℕ) (e : n ≡ length (decimal_of x)) where
-  pub places_many : d < n → n ≡ length (decimal_of (x / 10 ^ d)) + d
-  places_many h = e ∙ sym (some_left d x (rw e at h))
-
-  pub places_few : n ≤ d → d + 1 ≡ length (decimal_of (x / 10 ^ d)) + d
-  places_few h = omega (arith, none_left d x (rw e at h))
+  pub places_are : {r : ℕ} → r ≡ max n (d + 1) → r ≡ length (decimal_of (x / 10 ^ d)) + d
+  places_are q =
+      ⊎_elim
+      (λ (h : d < n). omega (arith, some_left d x (rw e at h)))
+      (λ (h : n ≤ d). omega (arith, none_left d x (rw e at h)))
+      (lt_or_ge d n)
 
 -- the bytes behind the point, the point, and the bytes before it
 three : (l : List ℕ) (k : ℕ) (ws rs : List ℕ) {a b c : List ℕ} → a ≡ put l (k + length ws + 1) rs → b ≡ put a (k + length ws) (46 ∷ []) → c ≡ put b k ws → c ≡ put l k (ws ++ ((46 ∷ []) ++ rs))

@@ -25,21 +25,11 @@ fn digit(x: u64) -> u8
     b'0' + (x as u8)
 }
 
-// How many digits x has: one more than the powers of 10 from 10 on that it reaches. Nothing is divided, and the compiler lays the turns out one behind
-// the other, each a comparison with a constant. Beyond the last power no u64 holds a further one.
+// How many digits x has: 0 has one, as 1 has.
 fn width(x: u64) -> usize
     ensures { result ≡ length (decimal_of x) }
 {
-    let mut limit = 10;
-    let mut n = 1;
-    while limit <= x {
-        if n == 19 {
-            return 20;
-        }
-        limit = limit * 10;
-        n += 1;
-    }
-    n
+    x.max(1).ilog10() as usize + 1
 }
 
 // How many digits x is written with where `decimals` of them stand behind a point: at least one stands before it.
@@ -47,14 +37,10 @@ fn places(x: u64, decimals: usize) -> usize
     requires { decimals < 2 ^ 63 }
     ensures { result ≡ length (decimal_of (x / 10 ^ decimals)) + decimals }
 {
-    let n = width(x);
-    if decimals < n {
-        return n;
-    }
-    decimals + 1
+    width(x).max(decimals + 1)
 }
 
-// How many bytes `put_number` writes.
+// How many bytes `put_number` writes. A sum of its own, beside the writing: the width of x tells it, and no digit is walked over.
 pub fn number_length(x: u64, decimals: usize) -> usize
     requires { decimals ≤ 20 }
     ensures { (result ≡ length (number_text x decimals)) × (result ≤ 41) }
@@ -93,10 +79,11 @@ fn put_last(text: &mut [u8], at: usize, n: usize, x: u64) -> u64
 {
     let mut rest = x;
     let mut free = n;
+    // Two digits at a turn, from the last: a range would have to be halved and turned round, and say no more.
     while 2 <= free {
         free -= 2;
         put_pair(text, at + free, rest % 100);
-        rest = rest / 100;
+        rest /= 100;
     }
     if free == 1 {
         write::put_u8(text, at, digit(rest % 10));

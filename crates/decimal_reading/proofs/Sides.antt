@@ -2,8 +2,8 @@
 -- is read, and what is read is the spelling of its number. Assumes nothing.
 use Prim.Native.Nat.{ℕ, zero, suc, ◌+◌, ◌-◌, ◌≤◌, ◌<◌}
 use mathlib.Core.Path.{◌≡◌, refl, sym, ap, ◌∙◌}
-use mathlib.Core.Bool.{Bool, beq, true, false, not, cond, ◌&&◌, ◌||◌, true≢false, false≢true}
-use mathlib.Core.List.{List, [], ◌∷◌, ◌++◌}
+use mathlib.Core.Bool.{Bool, beq, true, false, not, cond, true≢false, false≢true}
+use mathlib.Core.List.{List, [], ◌∷◌}
 use native.Mathlib.Omega.{arith}
 use borrow.Author.Tests.{eq-eqb, ne_eqb, eqb-true}
 use lib.Dec.{eqb}
@@ -13,20 +13,21 @@ use Rattle.numbers.specs.Sign.{signed}
 use Rattle.ground.specs.Bytes.{byte_at, part}
 use Rattle.ground.specs.Inner.Put.{Wrote}
 use Rattle.decimal.specs.Decimal.{signed_text}
-use Rattle.decimal.specs.Standing.{is_digit, Stands, Number, Signed, Decides}
-use Rattle.decimal.proofs.Standing.{decides_none, decides_one, stands_two, stands_first, stands_rest, stands_one, stands_byte, stands_put, decided}
+use Rattle.decimal.specs.Standing.{is_digit, Number, Signed}
+use Rattle.decimal.proofs.Standing.{stands_two, stands_first, stands_rest, stands_one, stands_byte, stands_put}
 use Rattle.decimal.proofs.Reading.{byte_within}
 use Rattle.decimal.proofs.Once.{number_once}
 use Rattle.decimal.proofs.Signs.{signed_plus, signed_minus, of_plus, of_minus, no_minus, signed_once}
+use Rattle.std.specs.Prelude.{Option, Some}
+use Rattle.std.specs.Bool.{then_some}
+use Rattle.std.proofs.lemmas.Bool.{and_parts}
+use Rattle.decimal_reading.specs.Reads.{Reads}
 use Rattle.decimal_reading.specs.Sided.{sided_text, SidedThen}
+use Rattle.decimal_reading.specs.declared.Taken.{Taken}
+use Rattle.decimal_reading.proofs.Answered.{reads_once}
 use Rattle.decimal_reading.specs.Inner.Taking.{NumberThen, is_minus, is_sided}
 
 -- ---- which side of 0
-
-both : (a b : Bool) → (a && b) ≡ true → (a ≡ true) × (b ≡ true)
-both true true e = (refl, refl)
-both true false e = absurd (false≢true e)
-both false b e = absurd (false≢true e)
 
 differ : (a b : Bool) → not (beq a b) ≡ true → b ≡ not a
 differ true true e = absurd (false≢true e)
@@ -42,7 +43,7 @@ size_of false x = refl
 -- a minus lies in the text, so there is a place behind it
 pub minus_within : (charge : Bool) (s : List ℕ) (k : ℕ) {t : Bool} → t ≡ is_minus charge s k → t ≡ true → k < length s
 minus_within charge s k q h =
-    let b = eqb-true (byte_at s k) 45 (both charge (eqb (byte_at s k) 45) (sym q ∙ h)).1 in
+    let b = eqb-true (byte_at s k) 45 (and_parts charge (eqb (byte_at s k) 45) (sym q ∙ h)).1 in
     byte_within s k (λ o. omega arith)
 
 module _ {s : List ℕ} {k d limit : ℕ} where
@@ -109,18 +110,18 @@ module _ (charge : Bool) (d limit end : ℕ) (apart : is_digit end ≡ false) (s
         }
 
     -- what was read behind the sign says all of it
-    pub sided_decided : 0 < end → {g u : Bool} {x e : ℕ} → Decides Then g x e → u ≡ is_sided charge t x → Decides (SidedThen charge d limit end s k) (g && u) x e
-    sided_decided l {g} {u} {x} {e} c o = by g refl u refl
+    pub sided_none : ((x e : ℕ) → Then x e → ⊥) → (x e : ℕ) → SidedThen charge d limit end s k x e → ⊥
+    sided_none c x e w = c x e (into x e w).0
+
+    pub sided_decided : 0 < end → (n : Taken) → Then n.value n.next → {u : Bool} → u ≡ is_sided charge t n.value → Reads (SidedThen charge d limit end s k) (then_some u n)
+    sided_decided l n c {u} o = by u refl
       where
-        by : (a : Bool) → g ≡ a → (b : Bool) → u ≡ b → Decides (SidedThen charge d limit end s k) (a && b) x e
-        by true i true j = decides_one (out l x e (c.found i) (sym o ∙ j))
-        by true i false j =
-            decides_none x e
-            (λ y m w.
+        by : (b : Bool) → u ≡ b → Reads (SidedThen charge d limit end s k) (then_some b n)
+        by true j = out l n.value n.next c (sym o ∙ j)
+        by false j = λ y m w.
             let r = into y m w in
-            let z = (number_once (c.found i).number r.0.number).0 in
-            false≢true (sym j ∙ o ∙ ap (is_sided charge t) z ∙ r.1))
-        by false i b j = decides_none x e (λ y m w. c.none i y m (into y m w).0)
+            let z = (number_once c.number r.0.number).0 in
+            false≢true (sym j ∙ o ∙ ap (is_sided charge t) z ∙ r.1)
 
   -- a text has one at a place
   pub sided_once : (x y e g : ℕ) → SidedThen charge d limit end s k x e → SidedThen charge d limit end s k y g → (x ≡ y) × (e ≡ g)
@@ -134,13 +135,12 @@ module _ (charge : Bool) (d limit end : ℕ) (apart : is_digit end ≡ false) (s
 
 module _ (charge : Bool) (d limit end : ℕ) (apart : is_digit end ≡ false) where
   -- written and read: the number comes back
-  pub sided_written_and_read : (x : ℕ) → x ≤ limit → {l b : List ℕ} {k e : ℕ} → k + length (sided_text charge d end x) ≤ length l → Wrote l k (sided_text charge d end x) b e → {g : Bool} {v n : ℕ} → Decides (SidedThen charge d limit end b k) g v n → (g ≡ true) × (v ≡ x) × (n ≡ e)
-  sided_written_and_read x h {l} {b} {k} {e} r w c =
-      decided c (sided_once charge d limit end apart b k) x e (record { fine = h; stands = rw w.bytes (stands_put l k (sided_text charge d end x) r); ends = w.next })
+  pub sided_written_and_read : (x : ℕ) → x ≤ limit → {l b : List ℕ} {k e : ℕ} → k + length (sided_text charge d end x) ≤ length l → Wrote l k (sided_text charge d end x) b e → {r : Option Taken} → Reads (SidedThen charge d limit end b k) r → r ≡ Some (record { value = x; next = e })
+  sided_written_and_read x h {l} {b} {k} {e} room w {r} c =
+      reads_once r c (sided_once charge d limit end apart b k) x e (record { fine = h; stands = rw w.bytes (stands_put l k (sided_text charge d end x) room); ends = w.next })
 
-  -- read and written: what is read as x has exactly the bytes of x
-  pub sided_read_and_written : {s : List ℕ} {k : ℕ} {g : Bool} {x n : ℕ} → Decides (SidedThen charge d limit end s k) g x n → g ≡ true → part s k (n - k) ≡ sided_text charge d end x
-  sided_read_and_written {s} {k} {g} {x} {n} c h =
-      let f = c.found h in
-      let o : n - k ≡ length (sided_text charge d end x) = omega (arith, f.ends) in
+  -- read and written: what is read has exactly the bytes of its value
+  pub sided_read_and_written : {s : List ℕ} {k : ℕ} (n : Taken) → Reads (SidedThen charge d limit end s k) (Some n) → part s k (n.next - k) ≡ sided_text charge d end n.value
+  sided_read_and_written {s} {k} n f =
+      let o : n.next - k ≡ length (sided_text charge d end n.value) = omega (arith, f.ends) in
       rw o f.stands.bytes

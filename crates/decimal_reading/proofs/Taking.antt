@@ -2,7 +2,7 @@
 use Prim.Native.Nat.{ℕ, zero, suc, ◌+◌, ◌-◌, ◌*◌, ◌/◌, ◌^◌, ◌≤◌, ◌<◌}
 use mathlib.Core.Path.{◌≡◌, refl, sym, ap, ◌∙◌}
 use mathlib.Core.List.{List, [], ◌∷◌}
-use mathlib.Core.Bool.{Bool, true, false, ◌&&◌, true≢false, false≢true}
+use mathlib.Core.Bool.{Bool, true, false, true≢false}
 use mathlib.Core.Logic.{⊎_elim}
 use native.Mathlib.Omega.{arith}
 use native.Mathlib.Nat.{add-zero, pow-suc, pow-le-pow_right, mul_assoc, mul-le-mul, le_refl, eq-zero-or-pos}
@@ -15,17 +15,18 @@ use Rattle.sections.proofs.Search.{lt_or_ge}
 use Rattle.ground.specs.Bytes.{byte_at}
 use Rattle.ground.proofs.Every.{every, all}
 use Rattle.decimal.specs.Decimal.{decimal_of, point_text}
-use Rattle.decimal.specs.Standing.{is_digit, Stands, Number, Decides}
+use Rattle.decimal.specs.Standing.{is_digit, Stands, Number}
 use Rattle.decimal.specs.Inner.Digits.{value_from, Digits, Run, Whole, Fraction}
 use Rattle.decimal.proofs.Spelling.{some_digit, few_digits}
-use Rattle.decimal.proofs.Standing.{decides_none, decides_one, stands_part, stands_two, stands_one}
-use Rattle.decimal.proofs.Reading.{byte_within, digit_bounds, digit_within, last_there, value_above, whole_there, whole_back, run_digits}
+use Rattle.decimal.proofs.Standing.{stands_part, stands_two, stands_one}
+use Rattle.decimal.proofs.Reading.{byte_within, digit_bounds, last_there, value_above, whole_there, whole_back, run_digits}
 use Rattle.decimal.proofs.Once.{point_text_lem, whole_value, whole_lead, whole_run, whole_once, fraction_plain, fraction_digits, fraction_point, fraction_value, fraction_end, fraction_once, number_join, number_whole, number_rest}
+use Rattle.decimal_reading.specs.Reads.{Reads}
+use Rattle.decimal_reading.proofs.Answered.{reads_same}
 use Rattle.decimal_reading.specs.Inner.Taking.{spare_zero, far, SumAt, Front, PlacesAt, Rest, NumberThen}
-
--- an answer that is not good, whatever else it has
-decides_false : {A : Type 0} {There : A → ℕ → Type 0} {g : Bool} {v : A} {n : ℕ} → g ≡ false → ((x : A) (e : ℕ) → There x e → ⊥) → Decides There g v n
-decides_false z f = record { found = λ q. absurd (true≢false (sym q ∙ z)); none = λ q. f }
+use Rattle.std.specs.Prelude.{Option}
+use Rattle.std.specs.Bool.{then_some}
+use Rattle.decimal_reading.specs.declared.Taken.{Taken}
 
 -- what a test says, of the byte itself
 pub seen : (s : List ℕ) (e b : ℕ) {t u : Bool} → b ≡ byte_at s e → t ≡ is_digit b → t ≡ u → is_digit (byte_at s e) ≡ u
@@ -77,11 +78,10 @@ not_passed {s} {k} {v} {n} {x} {e} p r h =
     true≢false (sym (rw j at (p.each (e - k) h)) ∙ r.stop)
 
 module _ {s : List ℕ} {k room n x : ℕ} (p : Passed s k 0 n x) where
-  pub sum_found : is_digit (byte_at s (k + n)) ≡ false → n < room → n < length s - k → Decides (SumAt s k room) true x (k + n)
+  pub sum_found : is_digit (byte_at s (k + n)) ≡ false → n < room → n < length s - k → SumAt s k room x (k + n)
   sum_found z h l =
       let o : k + n - k ≡ n = omega arith in
-      decides_one
-      (record {
+      record {
         run =
             record {
               start = omega arith;
@@ -92,13 +92,13 @@ module _ {s : List ℕ} {k room n x : ℕ} (p : Passed s k 0 n x) where
         few = omega arith;
         inside = omega arith;
         value = rw o p.value;
-      })
+      }
 
-  pub sum_ended : length s - k ≤ n → Decides (SumAt s k room) false 0 0
-  sum_ended h = decides_none 0 0 (λ y e c. not_passed p c.run (omega (arith, c.inside, c.run.start)))
+  pub sum_ended : length s - k ≤ n → (y e : ℕ) → SumAt s k room y e → ⊥
+  sum_ended h y e c = not_passed p c.run (omega (arith, c.inside, c.run.start))
 
-  pub sum_long : room ≤ n → Decides (SumAt s k room) false 0 0
-  sum_long h = decides_none 0 0 (λ y e c. not_passed p c.run (omega (arith, c.few, c.run.start)))
+  pub sum_long : room ≤ n → (y e : ℕ) → SumAt s k room y e → ⊥
+  sum_long h y e c = not_passed p c.run (omega (arith, c.few, c.run.start))
 
 -- ---- the whole number: where take_whole ends
 
@@ -131,89 +131,71 @@ module _ {s : List ℕ} {k room : ℕ} where
   front_first {y} w =
       rw add-zero at ((whole_back s k y w.whole.field.stands).digits.each 0 (omega (arith, some_digit y)))
 
-  module _ {g : Bool} {x e : ℕ} (c : Decides (SumAt s k room) g x e) where
-    pub whole_nothing : e ≤ k → Decides (Front s k room) false 0 0
-    whole_nothing h = decides_none 0 0 (λ y f w. by y f w g refl)
-      where
-        by : (y f : ℕ) → Front s k room y f → (t : Bool) → g ≡ t → ⊥
-        by y f w true q =
-            let r = (c.found q).run in
-            let o : e ≡ k = omega (arith, r.start) in
-            true≢false (sym (front_first w) ∙ rw o at r.stop)
-        by y f w false q = c.none q y f (front_sum w)
+  pub whole_nothing : ((y e : ℕ) → SumAt s k room y e → ⊥) → (y f : ℕ) → Front s k room y f → ⊥
+  whole_nothing c y f w = c y f (front_sum w)
 
-    module _ (shut : g ≡ false → e ≡ 0) (h : k < e) where
-      pub sum_good : g ≡ true
-      sum_good = by g refl
-        where
-          by : (t : Bool) → g ≡ t → g ≡ true
-          by true q = q
-          by false q = absurd (omega (arith, shut q))
+  module _ {x e : ℕ} (c : SumAt s k room x e) where
+    pub whole_empty : e ≤ k → (y f : ℕ) → Front s k room y f → ⊥
+    whole_empty h y f w =
+        let o : e ≡ k = omega (arith, c.run.start) in
+        true≢false (sym (front_first w) ∙ rw o at c.run.stop)
 
-      pub whole_spare : {b : ℕ} {t : Bool} → b ≡ byte_at s k → t ≡ spare_zero b (e - k) → t ≡ true → Decides (Front s k room) false 0 0
-      whole_spare {b} o q z =
-          let p = spare b (e - k) q z in
-          decides_none 0 0 (λ y f w. whole_lead (c.found sum_good).run w.whole (sym o ∙ p.0) p.1)
+    pub whole_spare : {b : ℕ} {t : Bool} → b ≡ byte_at s k → t ≡ spare_zero b (e - k) → t ≡ true → (y f : ℕ) → Front s k room y f → ⊥
+    whole_spare {b} o q z y f w = let p = spare b (e - k) q z in whole_lead c.run w.whole (sym o ∙ p.0) p.1
 
-      pub whole_found : room ≤ 19 → {b : ℕ} {t : Bool} → b ≡ byte_at s k → t ≡ spare_zero b (e - k) → t ≡ false → Decides (Front s k room) g x e
-      whole_found l {b} o q z =
-          let m = c.found sum_good in
-          let d = run_digits m.run in
-          let small : x < far = sum_fits (record { each = d.each; value = m.value }) (omega (arith, m.few, m.run.start)) in
-          let v = m.value in
-          let low : value_from 0 s k (e - k) ≤ far = omega (arith, v, small) in
-          record {
-            found = λ i.
-                record {
-                  whole = rw v (whole_here m.run h (λ a. no_spare b (e - k) q z (o ∙ a)) low);
-                  few = m.few;
-                  inside = m.inside;
-                };
-            none = λ i. absurd (true≢false (sym sum_good ∙ i));
-          }
+    pub whole_found : k < e → room ≤ 19 → {b : ℕ} {t : Bool} → b ≡ byte_at s k → t ≡ spare_zero b (e - k) → t ≡ false → Front s k room x e
+    whole_found h l {b} o q z =
+        let d = run_digits c.run in
+        let small : x < far = sum_fits (record { each = d.each; value = c.value }) (omega (arith, c.few, c.run.start)) in
+        let v = c.value in
+        let low : value_from 0 s k (e - k) ≤ far = omega (arith, v, small) in
+        record {
+          whole = rw v (whole_here c.run h (λ a. no_spare b (e - k) q z (o ∙ a)) low);
+          few = c.few;
+          inside = c.inside;
+        }
 
 -- ---- the decimals: where take_places ends
 
-module _ {s : List ℕ} {k v d end : ℕ} where
-  pub places_short : 0 < end → length s - k ≤ d → Decides (PlacesAt s k v d end) false 0 0
-  places_short l h = decides_none 0 0 (λ x e c. omega (arith, byte_within s (k + d) (λ o. omega (arith, c.byte))))
+module _ {s : List ℕ} {k v d : ℕ} (end : ℕ) where
+  pub places_short : 0 < end → length s - k ≤ d → (x e : ℕ) → PlacesAt s k v d end x e → ⊥
+  places_short l h x e c = omega (arith, byte_within s (k + d) (λ o. omega (arith, c.byte)))
 
-  pub places_other : (n : ℕ) → n < d → is_digit (byte_at s (k + n)) ≡ false → Decides (PlacesAt s k v d end) false 0 0
-  places_other n h z = decides_none 0 0 (λ x e c. true≢false (sym (c.digits.each n h) ∙ z))
+  pub places_other : (n : ℕ) → n < d → is_digit (byte_at s (k + n)) ≡ false → (x e : ℕ) → PlacesAt s k v d end x e → ⊥
+  places_other n h z x e c = true≢false (sym (c.digits.each n h) ∙ z)
 
-  pub places_told : {n x b : ℕ} → Passed s k v n x → n ≤ d → d ≤ n → d < length s - k → b ≡ byte_at s (k + d) → Decides (PlacesAt s k v d end) (eqb b end) x (k + d + 1)
+  pub places_told : {n x b : ℕ} → Passed s k v n x → n ≤ d → d ≤ n → d < length s - k → b ≡ byte_at s (k + d) → Reads (PlacesAt s k v d end) (then_some (eqb b end) (record { value = x; next = k + d + 1 }))
   places_told {n} {x} {b} p h g l q = by (eqb b end) refl
     where
       same : n ≡ d
       same = omega arith
 
-      by : (t : Bool) → eqb b end ≡ t → Decides (PlacesAt s k v d end) t x (k + d + 1)
+      by : (t : Bool) → eqb b end ≡ t → Reads (PlacesAt s k v d end) (then_some t (record { value = x; next = k + d + 1 }))
       by true o =
-          decides_one
-          (record {
+          record {
             digits = record { within = omega arith; each = rw same at p.each };
             byte = sym q ∙ eqb-true b end o;
             value = rw same at p.value;
             ends = refl;
-          })
-      by false o = decides_none x (k + d + 1) (λ y e c. eqb-false b end o (q ∙ c.byte))
+          }
+      by false o = λ y e c. eqb-false b end o (q ∙ c.byte)
 
 -- ---- the point and the decimals: where take_rest ends
 
-module _ {s : List ℕ} {k v d end : ℕ} where
-  pub rest_plain : d ≡ 0 → v ≤ far → is_digit (byte_at s k) ≡ false → {b : ℕ} → b ≡ byte_at s k → Decides (Rest s k v d end) (eqb b end) v (k + 1)
+module _ (s : List ℕ) (k v d end : ℕ) where
+  pub rest_plain : d ≡ 0 → v ≤ far → is_digit (byte_at s k) ≡ false → {b : ℕ} → b ≡ byte_at s k → Reads (Rest s k v d end) (then_some (eqb b end) (record { value = v; next = k + 1 }))
   rest_plain z h o {b} q = by (eqb b end) refl
     where
       here : Fraction s k v d far v k
       here = (fraction_plain z h o).found refl
 
-      by : (t : Bool) → eqb b end ≡ t → Decides (Rest s k v d end) t v (k + 1)
-      by true i = decides_one (record { body = k; fraction = here; byte = sym q ∙ eqb-true b end i; ends = refl })
-      by false i = decides_none v (k + 1) (λ y e c. eqb-false b end i (q ∙ ap (byte_at s) (fraction_once here c.fraction).1 ∙ c.byte))
+      by : (t : Bool) → eqb b end ≡ t → Reads (Rest s k v d end) (then_some t (record { value = v; next = k + 1 }))
+      by true i = record { body = k; fraction = here; byte = sym q ∙ eqb-true b end i; ends = refl }
+      by false i = λ y e c. eqb-false b end i (q ∙ ap (byte_at s) (fraction_once here c.fraction).1 ∙ c.byte)
 
   module _ (z : d ≡ 0 → ⊥) where
-    pub rest_no_point : {b : ℕ} → b ≡ byte_at s k → (b ≡ 46 → ⊥) → Decides (Rest s k v d end) false 0 0
-    rest_no_point e h = decides_none 0 0 (λ x j c. h (e ∙ fraction_point z c.fraction))
+    pub rest_no_point : {b : ℕ} → b ≡ byte_at s k → (b ≡ 46 → ⊥) → (x j : ℕ) → Rest s k v d end x j → ⊥
+    rest_no_point e h x j c = h (e ∙ fraction_point z c.fraction)
 
     rest_found : byte_at s k ≡ 46 → is_digit end ≡ false → (v + 1) * 10 ^ d ≤ far → {x e : ℕ} → PlacesAt s (k + 1) v d end x e → Rest s k v d end x e
     rest_found b apart l {x} {e} c =
@@ -246,9 +228,8 @@ module _ {s : List ℕ} {k v d end : ℕ} where
           ends = omega (arith, o, c.ends);
         }
 
-    pub rest_decided : {b : ℕ} → b ≡ byte_at s k → b ≡ 46 → is_digit end ≡ false → (v + 1) * 10 ^ d ≤ far → {g : Bool} {x e : ℕ} → Decides (PlacesAt s (k + 1) v d end) g x e → Decides (Rest s k v d end) g x e
-    rest_decided q h apart l c =
-        record { found = λ i. rest_found (sym q ∙ h) apart l (c.found i); none = λ i y e r. c.none i y e (rest_places r) }
+    pub rest_decided : {b : ℕ} → b ≡ byte_at s k → b ≡ 46 → is_digit end ≡ false → (v + 1) * 10 ^ d ≤ far → (r : Option Taken) → Reads (PlacesAt s (k + 1) v d end) r → Reads (Rest s k v d end) r
+    rest_decided q h apart l = reads_same (λ x e. rest_found (sym q ∙ h) apart l) (λ x e. rest_places)
 
 -- ---- the whole number and the rest of it: where take_number ends
 
@@ -287,27 +268,23 @@ module _ {s : List ℕ} {k d limit end : ℕ} (h : d ≤ 6) (small : limit < 1_0
           inside = then_inside;
         }
 
-  pub number_none : {g : Bool} {v m : ℕ} → Decides (Front s k (19 - d)) g v m → g ≡ false → Decides (NumberThen s k d limit end) g v m
-  number_none c z = decides_false z (λ y f n. c.none z _ _ (then_front n))
+  pub number_none : ((x e : ℕ) → Front s k (19 - d) x e → ⊥) → (y f : ℕ) → NumberThen s k d limit end y f → ⊥
+  number_none c y f n = c _ _ (then_front n)
 
-  module _ {v m : ℕ} (w : Front s k (19 - d) v m) {g : Bool} {x e : ℕ} (c : Decides (Rest s m v d end) g x e) where
-    number_found : g ≡ true → x ≤ limit → NumberThen s k d limit end x e
-    number_found i l =
-        let r = c.found i in
-        let n = number_join w.whole r.fraction in
-        record { body = r.body; number = record { small = l; field = n.field }; byte = r.byte; ends = r.ends }
-
+  module _ {v m : ℕ} (w : Front s k (19 - d) v m) where
     rest_of : {y f : ℕ} → NumberThen s k d limit end y f → Rest s m v d end y f
     rest_of n = let p = whole_once (then_front n).whole w.whole in rw (p.1, p.0) at (then_rest n)
 
-    pub number_decided : Decides (NumberThen s k d limit end) (g && leb x limit) x e
-    number_decided = by g refl (leb x limit) refl
+    pub number_bare : ((x e : ℕ) → Rest s m v d end x e → ⊥) → (y f : ℕ) → NumberThen s k d limit end y f → ⊥
+    number_bare c y f n = c y f (rest_of n)
+
+    pub number_decided : (x : Taken) → Rest s m v d end x.value x.next → Reads (NumberThen s k d limit end) (then_some (leb x.value limit) x)
+    number_decided x r = by (leb x.value limit) refl
       where
-        by : (t : Bool) → g ≡ t → (u : Bool) → leb x limit ≡ u → Decides (NumberThen s k d limit end) (t && u) x e
-        by true i true l = decides_one (number_found i (leb-true x limit l))
-        by true i false l =
-            decides_none x e
-            (λ y f n.
-            let o = (fraction_once (c.found i).fraction (rest_of n).fraction).0 in
-            true≢false (sym (le-leb x limit (omega (arith, o, n.number.small))) ∙ l))
-        by false i u l = decides_none x e (λ y f n. c.none i y f (rest_of n))
+        by : (u : Bool) → leb x.value limit ≡ u → Reads (NumberThen s k d limit end) (then_some u x)
+        by true l =
+            let n = number_join w.whole r.fraction in
+            record { body = r.body; number = record { small = leb-true x.value limit l; field = n.field }; byte = r.byte; ends = r.ends }
+        by false l = λ y f n.
+            let o = (fraction_once r.fraction (rest_of n).fraction).0 in
+            true≢false (sym (le-leb x.value limit (omega (arith, o, n.number.small))) ∙ l)

@@ -4,34 +4,23 @@
 
 ghost use Rattle.std.specs.Prelude.{◌≡◌, true, false, cond, ◌+◌, ◌-◌, ◌*◌, ◌^◌, ◌≤◌, ◌<◌, length};
 ghost use Rattle.ground.specs.Bytes.{byte_at};
-ghost use Rattle.decimal.specs.Standing.{is_digit, Decides};
+ghost use Rattle.decimal.specs.Standing.{is_digit};
 ghost use Rattle.decimal_reading.specs.Inner.Taking.{spare_zero, far, SumAt, Front, PlacesAt, Rest, NumberThen, is_minus, is_sided};
+ghost use Rattle.decimal_reading.specs.Reads.{Reads};
 ghost use Rattle.decimal_reading.specs.Sided.{SidedThen};
 
-// What was read: whether it is there, its value, and where it ends.
+// What was read: its value, and where it ends.
 #[derive(Clone, Copy)]
 pub struct Taken {
-    pub good: bool,
     pub value: u64,
     pub next: usize,
-}
-
-impl Taken {
-    pub const NOTHING: Taken = Taken {
-        good: false,
-        value: 0,
-        next: 0,
-    };
 }
 
 // The byte at a place; past the end 0, which is no digit.
 pub fn byte_at(text: &[u8], at: usize) -> u8
     ensures { result ≡ byte_at text.now at }
 {
-    if at < text.len() {
-        return text[at];
-    }
-    0
+    text.get(at).copied().unwrap_or(0)
 }
 
 // A byte as wide as the sum that its digit goes into: it is tested and added as the same number.
@@ -61,118 +50,96 @@ fn spare_zero(first: u8, count: usize) -> bool
     (first == b'0') & (1 < count)
 }
 
-// How many of n bytes are left from a place on.
-fn left(n: usize, at: usize) -> usize
-    ensures { result ≡ n - at }
-{
-    if at < n { n - at } else { 0 }
-}
-
 // The digits that stand here, fewer than room, with another byte behind them.
-fn take_digits(text: &[u8], at: usize, room: usize) -> Taken
+fn take_digits(text: &[u8], at: usize, room: usize) -> Option<Taken>
     requires { room ≤ 19 }
-    ensures decides { Decides (SumAt text.now at room) result.good result.value result.next }
-    ensures next_value { result.good ≡ false → result.next ≡ 0 }
+    ensures { Reads (SumAt text.now at room) result }
 {
-    let n = left(text.len(), at);
+    let n = text.len().saturating_sub(at);
     let mut sum = 0;
-    let mut i = 0;
-    while i < room {
+    for i in 0..room {
         if n <= i {
-            return Taken::NOTHING;
+            return None;
         }
         let x = wide(text[at + i]);
         if !is_digit(x) {
-            return Taken {
-                good: true,
+            return Some(Taken {
                 value: sum,
                 next: at + i,
-            };
+            });
         }
         sum = with_digit(sum, x);
-        i += 1;
     }
-    Taken::NOTHING
+    None
 }
 
 // A whole number that stands here, of fewer digits than room, with another byte behind it.
-fn take_whole(text: &[u8], at: usize, room: usize) -> Taken
+fn take_whole(text: &[u8], at: usize, room: usize) -> Option<Taken>
     requires { room ≤ 19 }
-    ensures { Decides (Front text.now at room) result.good result.value result.next }
+    ensures { Reads (Front text.now at room) result }
 {
-    let w = take_digits(text, at, room);
+    let w = take_digits(text, at, room)?;
     if w.next <= at {
-        return Taken::NOTHING;
+        return None;
     }
     if spare_zero(text[at], w.next - at) {
-        return Taken::NOTHING;
+        return None;
     }
-    w
+    Some(w)
 }
 
 // So many digits that stand here, behind those of v, and then the byte.
-fn take_places(text: &[u8], at: usize, decimals: usize, v: u64, end: u8) -> Taken
+fn take_places(text: &[u8], at: usize, decimals: usize, v: u64, end: u8) -> Option<Taken>
     requires at_in_bounds { (at ≤ length text.now) × (0 < end) }
     requires decimals_bound { (v + 1) * 10 ^ decimals ≤ far }
-    ensures { Decides (PlacesAt text.now at v decimals end) result.good result.value result.next }
+    ensures { Reads (PlacesAt text.now at v decimals end) result }
 {
     if text.len() - at <= decimals {
-        return Taken::NOTHING;
+        return None;
     }
     let mut sum = v;
-    let mut i = 0;
-    while i < decimals {
+    for i in 0..decimals {
         let x = wide(text[at + i]);
         if !is_digit(x) {
-            return Taken::NOTHING;
+            return None;
         }
         sum = with_digit(sum, x);
-        i += 1;
     }
-    Taken {
-        good: text[at + decimals] == end,
+    (text[at + decimals] == end).then_some(Taken {
         value: sum,
         next: at + decimals + 1,
-    }
+    })
 }
 
 // The rest of a number whose digits before the point are v: the point and the decimals, and then the byte.
-fn take_rest(text: &[u8], at: usize, decimals: usize, v: u64, end: u8) -> Taken
+fn take_rest(text: &[u8], at: usize, decimals: usize, v: u64, end: u8) -> Option<Taken>
     requires at_in_bounds { (at < length text.now) × (is_digit (byte_at text.now at) ≡ false) }
     requires v_le_far { (v ≤ far) × ((v + 1) * 10 ^ decimals ≤ far) }
     requires end_nonzero { (0 < end) × (is_digit end ≡ false) }
-    ensures { Decides (Rest text.now at v decimals end) result.good result.value result.next }
+    ensures { Reads (Rest text.now at v decimals end) result }
 {
     let b = text[at];
     if decimals == 0 {
-        return Taken {
-            good: b == end,
+        return (b == end).then_some(Taken {
             value: v,
             next: at + 1,
-        };
+        });
     }
     if b != b'.' {
-        return Taken::NOTHING;
+        return None;
     }
     take_places(text, at + 1, decimals, v, end)
 }
 
 // A number with decimals that stands here, at most limit, and then the byte.
-fn take_number(text: &[u8], at: usize, decimals: usize, limit: u64, end: u8) -> Taken
+fn take_number(text: &[u8], at: usize, decimals: usize, limit: u64, end: u8) -> Option<Taken>
     requires decimals_bound { (decimals ≤ 6) × (limit < 1_000_000_000_000) }
     requires end_nonzero { (0 < end) × (is_digit end ≡ false) }
-    ensures { Decides (NumberThen text.now at decimals limit end) result.good result.value result.next }
+    ensures { Reads (NumberThen text.now at decimals limit end) result }
 {
-    let w = take_whole(text, at, 19 - decimals);
-    if !w.good {
-        return w;
-    }
-    let x = take_rest(text, w.next, decimals, w.value, end);
-    Taken {
-        good: x.good & (x.value <= limit),
-        value: x.value,
-        next: x.next,
-    }
+    let w = take_whole(text, at, 19 - decimals)?;
+    let x = take_rest(text, w.next, decimals, w.value, end)?;
+    (x.value <= limit).then_some(x)
 }
 
 // Whether a minus stands here, of a number that is at most 0.
@@ -205,16 +172,12 @@ pub fn take_sided(
     decimals: usize,
     limit: u64,
     end: u8,
-) -> Taken
+) -> Option<Taken>
     requires decimals_bound { (decimals ≤ 6) × (limit < 1_000_000_000_000) }
     requires end_nonzero { (0 < end) × (is_digit end ≡ false) }
-    ensures { Decides (SidedThen charge decimals limit end text.now at) result.good result.value result.next }
+    ensures { Reads (SidedThen charge decimals limit end text.now at) result }
 {
     let minus = is_minus(text, at, charge);
-    let n = take_number(text, past(at, minus), decimals, limit, end);
-    Taken {
-        good: n.good & is_sided(charge, minus, n.value),
-        value: n.value,
-        next: n.next,
-    }
+    let n = take_number(text, past(at, minus), decimals, limit, end)?;
+    is_sided(charge, minus, n.value).then_some(n)
 }

@@ -1,5 +1,6 @@
 -- Demand 1: every input gets an answer, and a refusal leaves every byte. Each call's promise fixes its answer; by cases on what the rules fix for the
 -- input, it is one of the answers that the demand allows. Assumes nothing.
+use Rattle.std.specs.Prelude.{Ok, Err}
 use Prim.Native.Nat.{ℕ, zero, suc}
 use mathlib.Core.Path.{◌≡◌, refl}
 use mathlib.Core.Bool.{Bool, true, false, cond}
@@ -9,20 +10,17 @@ use borrow.Author.Tests.{leb-true, leb-false}
 use lib.Dec.{eqb, leb}
 use lib.ListN.{length}
 use Rattle.ground.specs.Put.{put}
-use Rattle.sections.specs.declared.Verdict.{Verdict}
-use Rattle.sections.specs.declared.Verdict.TheVariants.{Accepted, Refused}
+use Rattle.sections.specs.Refusal.{Verdict}
+use Rattle.sections.specs.Refusal as verdicts
 use Rattle.dispatch.specs.Dispatch.{payment, base_cost, rows_verdict, cost_if}
 use Rattle.book.specs.Book.{book_of}
 use Rattle.book.specs.Table.{locked_for, verdict}
 use Rattle.accounts.specs.Account.{public_of}
 use Rattle.sharing.specs.Once.{has}
 use Rattle.statement.specs.Lent.{Outcome, refuses, gives, length_for, answer_for, left_in}
-use Rattle.statement.specs.declared.Written.TheVariants as written
 use Rattle.statement.specs.Statement.{statement_bytes}
 use Rattle.parsing.specs.Parsing.{is_statement, heading_at, line_at, lines_in}
 use Rattle.reading.specs.Calls.{heading_read, line_read}
-use Rattle.reading.specs.declared.HeadingRead.TheVariants as heading
-use Rattle.reading.specs.declared.LineRead.TheVariants as line
 use Rattle.reading.specs.Rewriting.{rewritten}
 use Rattle.unpacking.specs.Unpacking.{all_fields, unpacked}
 use Rattle.settlement.specs.Settle.{outcome}
@@ -55,7 +53,7 @@ unfolding answer_for left_in written_answer
 called numbers (refuses number place) h k l r x c = refused number place refl (h number place refl) (record { answer = c.answer; bytes = c.left })
 called numbers (gives xs) h k l r x c = by (leb (length xs) (length l)) refl c.answer c.left
   where
-    by : (t : Bool) → leb (length xs) (length l) ≡ t → r ≡ written_answer (cond t (written.Length (length xs)) (written.Refused 13 0)) → x ≡ cond t (put l 0 xs) l → Answered numbers (gives xs) l r x
+    by : (t : Bool) → leb (length xs) (length l) ≡ t → r ≡ written_answer (cond t (Ok (length xs)) (verdicts.refused 13 0)) → x ≡ cond t (put l 0 xs) l → Answered numbers (gives xs) l r x
     by true t a e = written xs refl (record { room = leb-true (length xs) (length l) t; answer = a; bytes = e })
     by false t a e = short xs refl (leb-false (length xs) (length l) t) k (record { answer = a; bytes = e })
 
@@ -68,8 +66,8 @@ sized (gives xs) h r a = inl (rw a (refl, refl))
 
 checked : (b t : List ℕ) (v : Verdict) → verdict b t ≡ v → (r : VerdictAnswer) → r ≡ verdict_answer v → CheckAnswered b t r
 unfolding verdict_answer
-checked b t Accepted e r a = inl (e, a)
-checked b t (Refused number place) e r a = inr (rw a (e, verdict_numbers b t number place e))
+checked b t (Ok _) e r a = inl (e, a)
+checked b t (Err x) e r a = inr (rw a (e, verdict_numbers b t x.number x.place e))
 
 -- a number of any call on a book is one of a balance's
 more : (n : ℕ) → OneOf on_a_book n → OneOf on_a_balance n
@@ -78,9 +76,9 @@ more n h = or-true (eqb 15 n) _ h
 
 pooled : (b t : List ℕ) (v : Verdict) → verdict b t ≡ v → (f : Found) (r : PoolAnswer) → r ≡ pool_answer (balance_if v (answer_to (book_of b) (book_of (locked_for b t)) f)) → PoolAnswered r
 unfolding pool_answer balance_if answer_to has
-pooled b t Accepted e past r a = inr (rw a (refl, refl))
-pooled b t Accepted e (found p) r a = inl (rw a (refl, refl))
-pooled b t (Refused number place) e f r a = inr (rw a (more number (verdict_numbers b t number place e), refl))
+pooled b t (Ok _) e past r a = inr (rw a (refl, refl))
+pooled b t (Ok _) e (found p) r a = inl (rw a (refl, refl))
+pooled b t (Err x) e f r a = inr (rw a (more x.number (verdict_numbers b t x.number x.place e), refl))
 
 -- what a stage cut off, or 15
 staged : (cs : List Cut) (index : ℕ) (r : CutAnswer) → r ≡ cut_answer (stage_at cs index) → CutAnswered r
@@ -91,16 +89,16 @@ staged (c ∷ cs) (suc index) r a = staged cs index r a
 
 cut_off : (b t : List ℕ) (v : Verdict) → verdict b t ≡ v → (f : Found) (index : ℕ) (r : CutAnswer) → r ≡ cut_answer (cut_if v (cut_for (book_of b) (book_of (locked_for b t)) f index)) → CutAnswered r
 unfolding cut_answer cut_if cut_for has
-cut_off b t Accepted e past index r a = inr (rw a (refl, refl))
-cut_off b t Accepted e (found p) index r a = staged (stages_in (book_of b) (book_of (locked_for b t)) p) index r a
-cut_off b t (Refused number place) e f index r a = inr (rw a (more number (verdict_numbers b t number place e), refl))
+cut_off b t (Ok _) e past index r a = inr (rw a (refl, refl))
+cut_off b t (Ok _) e (found p) index r a = staged (stages_in (book_of b) (book_of (locked_for b t)) p) index r a
+cut_off b t (Err x) e f index r a = inr (rw a (more x.number (verdict_numbers b t x.number x.place e), refl))
 
-header_answered : (t : Bool) (s : List ℕ) (r : HeadingAnswer) → r ≡ heading_answer (cond t (heading.Heading (heading_at s)) (heading.Refused 14 0)) → HeadingAnswered r
+header_answered : (t : Bool) (s : List ℕ) (r : HeadingAnswer) → r ≡ heading_answer (cond t (Ok (heading_at s)) (verdicts.refused 14 0)) → HeadingAnswered r
 unfolding heading_answer has
 header_answered true s r a = inl (rw a (refl, refl))
 header_answered false s r a = inr (rw a (refl, refl))
 
-line_answered : (t past₀ : Bool) (s : List ℕ) (index : ℕ) (r : EntryAnswer) → r ≡ entry_answer (cond t (cond past₀ (line.Refused 15 0) (line.Line (line_at s index))) (line.Refused 14 0)) → EntryAnswered r
+line_answered : (t past₀ : Bool) (s : List ℕ) (index : ℕ) (r : EntryAnswer) → r ≡ entry_answer (cond t (cond past₀ (verdicts.refused 15 0) (Ok (line_at s index))) (verdicts.refused 14 0)) → EntryAnswered r
 unfolding entry_answer has
 line_answered true true s index r a = inr (rw a (refl, refl))
 line_answered true false s index r a = inl (rw a (refl, refl))
@@ -108,8 +106,8 @@ line_answered false past₀ s index r a = inr (rw a (refl, refl))
 
 costed : (v : Verdict) → Among on_dispatch_rows v → (amount : ℕ) (r : CostAnswer) → r ≡ cost_answer (cost_if v amount) → CostAnswered r
 unfolding cost_answer cost_if
-costed Accepted h amount r a = inl (rw a (refl, refl))
-costed (Refused number place) h amount r a = inr (rw a (h number place refl, refl))
+costed (Ok _) h amount r a = inl (rw a (refl, refl))
+costed (Err x) h amount r a = inr (rw a (h x.number x.place refl, refl))
 
 -- ---- a reconciliation file that is read
 

@@ -1,5 +1,8 @@
 -- Demand 2: every line is the guide's, every pool closes, and both round trips. Where a call does not refuse, the rules give what it answers, and that is
 -- the guide's by the theorems of the crates below. Assumes nothing.
+use Rattle.std.specs.Prelude.{Result, Ok, Err}
+use Rattle.sections.specs.declared.Refusal.{Refusal}
+use Rattle.statement.specs.declared.Heading.{Heading}
 use Prim.Native.Nat.{ℕ, ◌*◌, ◌<◌, ◌^◌}
 use mathlib.Core.Path.{◌≡◌, refl, sym, ap, ◌∙◌, fun_ext}
 use mathlib.Core.Bool.{Bool, true, false, cond}
@@ -9,9 +12,8 @@ use lib.ListN.{length}
 use borrow.Author.Tests.{lt-leb}
 use Rattle.ground.specs.Bytes.{AreBytes}
 use Rattle.sections.proofs.First.{first_each}
-use Rattle.sections.proofs.Refusal.{record_held}
-use Rattle.sections.specs.declared.Verdict.{Verdict}
-use Rattle.sections.specs.declared.Verdict.TheVariants.{Accepted, Refused}
+use Rattle.sections.proofs.Verdicts.{record_held}
+use Rattle.sections.specs.Refusal.{Verdict, unrefused}
 use Rattle.sections.proofs.Cases.{zero_one}
 use Rattle.book.specs.Book.{book_of}
 use Rattle.book.specs.Table.{check8, check9, soundness, locked_for, verdict}
@@ -21,13 +23,10 @@ use Rattle.accounts.specs.Rows.{keep, sum_of, sum_z}
 use Rattle.accounts.specs.Account.{public_of, rows_of_account, locked_of}
 use Rattle.sharing.specs.Once.{has}
 use Rattle.statement.specs.Statement.{statement_bytes}
-use Rattle.statement.specs.Lent.{Outcome, refuses, gives}
+use Rattle.statement.specs.Lent.{refuses, gives}
 use Rattle.statement.specs.declared.Line.{Line}
 use Rattle.parsing.specs.Parsing.{heading_at, line_at, lines_in, is_statement}
 use Rattle.reading.specs.Calls.{heading_read, line_read}
-use Rattle.reading.specs.declared.HeadingRead.{HeadingRead}
-use Rattle.reading.specs.declared.HeadingRead.TheVariants as heading
-use Rattle.reading.specs.declared.LineRead.TheVariants as line
 use Rattle.parsing.proofs.Laid.{laid_length}
 use Rattle.parsing.proofs.Trip.{read_and_written}
 use Rattle.reading.specs.Rewriting.{rewritten}
@@ -48,8 +47,8 @@ use Rattle.answers.specs.Answers.{verdict_answer, heading_answer, entry_answer, 
 use Rattle.answers.specs.declared.VerdictAnswer.{VerdictAnswer}
 use Rattle.answers.specs.declared.WrittenAnswer.{WrittenAnswer}
 use Rattle.answers.specs.declared.PoolAnswer.{PoolAnswer}
-use Rattle.demands.specs.Demand1.{OneOf, Gives, Answered, written, short, refused, on_a_statement, on_rewriting}
-use Rattle.demands.specs.Demand2.{NumbersAreTheGuides, lines_by_the_guide, guide_heading, guide_statement, accounts_of_both, numbered, front, StatementIsTheGuides, fields_at, LinesAreTheLineCalls, PoolCloses, EveryLineIsTheGuides}
+use Rattle.demands.specs.Demand1.{on_a_statement, on_rewriting}
+use Rattle.demands.specs.Demand2.{NumbersAreTheGuides, lines_by_the_guide, guide_heading, guide_statement, accounts_of_both, numbered, StatementIsTheGuides, fields_at, LinesAreTheLineCalls, PoolCloses, EveryLineIsTheGuides}
 use Rattle.demands.proofs.Numbers.{verdict_numbers}
 use Rattle.demands.proofs.Given.{Given, given, front_is}
 use Rattle.demands.proofs.Numbered.{line_numbered}
@@ -62,7 +61,7 @@ never e = absurd (zero_one cc)
 -- ---- the book
 
 -- a sound book passed checks 5, 8 and 9
-numbers_of : (b : List ℕ) → AreBytes b → soundness b ≡ Accepted → NumbersAreTheGuides b
+numbers_of : (b : List ℕ) → AreBytes b → soundness b ≡ unrefused → NumbersAreTheGuides b
 unfolding check8 check9
 numbers_of b bytes v =
     let c = (sound_passed b v).records in
@@ -74,15 +73,15 @@ numbers_of b bytes v =
 
 book_numbers : (b t : List ℕ) → AreBytes b → AreBytes t → (v : Verdict) → verdict b t ≡ v → (r : VerdictAnswer) → r ≡ verdict_answer v → r.refusal ≡ 0 → NumbersAreTheGuides b × NumbersAreTheGuides (locked_for b t)
 unfolding verdict_answer has
-book_numbers b t bytes also Accepted v r a z =
+book_numbers b t bytes also (Ok _) v r a z =
     let c = all_passed b t v in
     (numbers_of b bytes c.sound, numbers_of (locked_for b t) (locked_bytes b t bytes also) (locked_passes b t c.sound c.fits))
-book_numbers b t bytes also (Refused k place) v r a z = never (rw (sym (ap (λ (w : VerdictAnswer). w.refusal) a) ∙ z) at (verdict_numbers b t k place v))
+book_numbers b t bytes also (Err x) v r a z = never (rw (sym (ap (λ (w : VerdictAnswer). w.refusal) a) ∙ z) at (verdict_numbers b t x.number x.place v))
 
 -- ---- the statement
 
 module _ (b t : List ℕ) (bytes : AreBytes b) (also : AreBytes t) (account : ℕ) (small : account < 2 ^ 32) where
-  lines_guides : verdict b t ≡ Accepted → lines_for (book_of b) (book_of (locked_for b t)) account ≡ lines_by_the_guide b t account
+  lines_guides : verdict b t ≡ unrefused → lines_for (book_of b) (book_of (locked_for b t)) account ≡ lines_by_the_guide b t account
   lines_guides v = every_line_is_the_guides b t bytes (locked_bytes b t bytes also) v account
 
   -- what the rules give is the guide's
@@ -96,12 +95,12 @@ module _ (b t : List ℕ) (bytes : AreBytes b) (also : AreBytes t) (account : �
   read : (xs : List ℕ) → outcome b t account ≡ gives xs → ReadBack (public_of (book_of b)) (rows_of_account (book_of b) account) (locked_of (book_of (locked_for b t)) account) account xs
   read xs e = written_and_read b t account xs bytes small e
 
-  heading_read_lem : (xs : List ℕ) → outcome b t account ≡ gives xs → heading_read xs ≡ heading.Heading (guide_heading b t account)
+  heading_read_lem : (xs : List ℕ) → outcome b t account ≡ gives xs → heading_read xs ≡ Ok (guide_heading b t account)
   unfolding heading_read
   heading_read_lem xs e =
       let s = passed b t account xs e in
       let back = read xs e in
-      rw back.accepted (ap heading.Heading (back.heading ∙ ap (λ (ls : List Line). heading_of account (public_of (book_of b)) (length ls)) (lines_guides s.book)))
+      rw back.accepted (ap Ok (back.heading ∙ ap (λ (ls : List Line). heading_of account (public_of (book_of b)) (length ls)) (lines_guides s.book)))
 
   line_read_lem : (xs : List ℕ) → outcome b t account ≡ gives xs → (index : ℕ) → line_read xs index ≡ numbered (lines_by_the_guide b t account) index
   unfolding line_read
@@ -126,7 +125,7 @@ module _ (b t : List ℕ) (bytes : AreBytes b) (also : AreBytes t) (account : �
 -- ---- the balance
 
 module _ (b t : List ℕ) (bytes : AreBytes b) (also : AreBytes t) (number : ℕ) where
-  pool_closes : (v : verdict b t ≡ Accepted) (p : Pool) → pool_at (pools_in (public_of (book_of b))) number ≡ found p → (r : PoolAnswer) → r ≡ pool_answer (answer_to (book_of b) (book_of (locked_for b t)) (found p)) → PoolCloses b t number r
+  pool_closes : (v : verdict b t ≡ unrefused) (p : Pool) → pool_at (pools_in (public_of (book_of b))) number ≡ found p → (r : PoolAnswer) → r ≡ pool_answer (answer_to (book_of b) (book_of (locked_for b t)) (found p)) → PoolCloses b t number r
   unfolding pool_answer answer_to balance_in line_count line_sum pool_lines
   pool_closes v p e r a =
       let guides = fun_ext (λ (account : ℕ). every_line_is_the_guides b t bytes (locked_bytes b t bytes also) v account) in
@@ -142,9 +141,9 @@ module _ (b t : List ℕ) (bytes : AreBytes b) (also : AreBytes t) (number : ℕ
 
   balance_closes : (v : Verdict) → verdict b t ≡ v → (f : Found) → pool_at (pools_in (public_of (book_of b))) number ≡ f → (r : PoolAnswer) → r ≡ pool_answer (balance_if v (answer_to (book_of b) (book_of (locked_for b t)) f)) → r.refusal ≡ 0 → PoolCloses b t number r
   unfolding balance_if answer_to pool_answer has
-  balance_closes Accepted v past e r a z = absurd (omega (arith, sym (ap (λ (w : PoolAnswer). w.refusal) a) ∙ z))
-  balance_closes Accepted v (found p) e r a z = pool_closes v p e r a
-  balance_closes (Refused k place) v f e r a z = never (rw (sym (ap (λ (w : PoolAnswer). w.refusal) a) ∙ z) at (verdict_numbers b t k place v))
+  balance_closes (Ok _) v past e r a z = absurd (omega (arith, sym (ap (λ (w : PoolAnswer). w.refusal) a) ∙ z))
+  balance_closes (Ok _) v (found p) e r a z = pool_closes v p e r a
+  balance_closes (Err x) v f e r a z = never (rw (sym (ap (λ (w : PoolAnswer). w.refusal) a) ∙ z) at (verdict_numbers b t x.number x.place v))
 
 -- ---- read and written
 
@@ -159,7 +158,7 @@ rewritten_is s bytes xs e = by (is_statement s) refl e
 -- ---- all lines at once
 
 -- five numbers that are a line's are what the line call answers of it
-fields_are : (xs : List ℕ) (i : ℕ) (y : Line) → Stands xs i y → fields_at xs i ≡ entry_answer (line.Line y)
+fields_are : (xs : List ℕ) (i : ℕ) (y : Line) → Stands xs i y → fields_at xs i ≡ entry_answer (Ok y)
 unfolding entry_answer
 fields_are xs i y h = λ j. record { refusal = 0; place = 0; id = h.id j; part = h.part j; regions = h.regions j; unit = h.unit j; amount = h.amount j }
 
@@ -181,10 +180,10 @@ module _ (s : List ℕ) (bytes : AreBytes s) where
     counted : (heading_answer (heading_read s)).lines ≡ (heading_at s).lines
     unfolding heading_read heading_answer
     counted =
-        let e : heading_read s ≡ heading.Heading (heading_at s) = rw q refl in
-        ap (λ (h : HeadingRead). (heading_answer h).lines) e
+        let e : heading_read s ≡ Ok (heading_at s) = rw q refl in
+        ap (λ (h : Result Heading Refusal). (heading_answer h).lines) e
 
-    line_there : (i : ℕ) → i < (heading_at s).lines → line_read s i ≡ line.Line (line_at s i)
+    line_there : (i : ℕ) → i < (heading_at s).lines → line_read s i ≡ Ok (line_at s i)
     unfolding line_read
     line_there i h = rw (q, lt-leb (heading_at s).lines i h) refl
 

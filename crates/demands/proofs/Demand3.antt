@@ -1,13 +1,14 @@
 -- Demand 3: no neighbour's figure. A statement is made from the public part of a book, the account's own rows and, where the locked book is read, its
 -- region totals and the account's own rows there: so books that agree in these give the same outcome, and the call's promise speaks of nothing else.
 -- Assumes nothing.
+use Rattle.sections.specs.declared.Refusal.{Refusal}
+use Rattle.std.specs.Prelude.{Result, Ok}
 use Prim.Native.Nat.{ℕ}
 use mathlib.Core.Path.{◌≡◌, refl, sym, ap, ◌∙◌}
 use mathlib.Core.Bool.{Bool, true, false, cond, not}
 use mathlib.Core.List.{List, [], ◌∷◌, map}
 use Rattle.ground.specs.Inner.Each.{Each}
 use Rattle.sections.proofs.Cases.{zero_one}
-use Rattle.dispatch.specs.declared.Cost.TheVariants.{Amount}
 use Rattle.records.specs.declared.rows.Constraint.{Constraint}
 use Rattle.locking.specs.Locking.{is_test, reads_locked}
 use Rattle.book.specs.Header.{header_of}
@@ -118,10 +119,10 @@ same_id : (a b : Constraint) → costless a ≡ costless b → a.id ≡ b.id
 unfolding costless
 same_id a b e = ap (λ (r : Constraint). r.id) e
 
-same_amount : (m n : ℕ) → Amount m ≡ Amount n → m ≡ n
+same_amount : (m n : ℕ) → ◌≡◌ {A = Result ℕ Refusal} (Ok m) (Ok n) → m ≡ n
 same_amount m n e = cc
 
-same_costs : (rows : List ℕ) (way : ℕ → Way) (xs ys : List Constraint) → map costless xs ≡ map costless ys → Each (λ (r : Constraint). made_from rows (way r.id) r ≡ Amount r.cost) xs → Each (λ (r : Constraint). made_from rows (way r.id) r ≡ Amount r.cost) ys → map (λ (r : Constraint). r.cost) xs ≡ map (λ (r : Constraint). r.cost) ys
+same_costs : (rows : List ℕ) (way : ℕ → Way) (xs ys : List Constraint) → map costless xs ≡ map costless ys → Each (λ (r : Constraint). made_from rows (way r.id) r ≡ Ok r.cost) xs → Each (λ (r : Constraint). made_from rows (way r.id) r ≡ Ok r.cost) ys → map (λ (r : Constraint). r.cost) xs ≡ map (λ (r : Constraint). r.cost) ys
 same_costs rows way [] [] e p q = refl
 same_costs rows way [] (y ∷ ys) e p q = absurd (none_some _ _ e)
 same_costs rows way (x ∷ xs) [] e p q = absurd (none_some _ _ (sym e))

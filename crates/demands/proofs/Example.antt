@@ -14,10 +14,9 @@ use Rattle.ground.specs.Le.{le16, le32, le64, int64}
 use Rattle.numbers.specs.Sizes.{above_of, below_of}
 use Rattle.sections.specs.First.{and_then, first_bad}
 use Rattle.sections.specs.Order.{rises_by}
-use Rattle.sections.specs.Refusal.{unless, at_record, earlier, first_of}
+use Rattle.sections.specs.Refusal.{unless, at_record, earlier, first_of, unrefused}
 use Rattle.sections.specs.Search.{all, some}
 use Rattle.sections.specs.Total.{total, keyed}
-use Rattle.sections.specs.declared.Verdict.TheVariants.{Accepted}
 use Rattle.calendar.specs.Calendar.{days_in, is_date, is_period}
 use Rattle.records.specs.Rows.{entry_row, constraint_row, unit_row, energy_row, contract_row}
 use Rattle.market.specs.Kinds.{basis_of, mode_with}
@@ -151,7 +150,7 @@ abbrev pub book_at_limit : List ℕ
 book_at_limit =
     written.header_bytes 1 20250608 2 1 0 1 0 ++ regions ++ written.constraint_bytes 1 1 1 0 (plus 50_000_000_000) 0 0 0 (plus 0) (plus 0) ++ energy 7 3 6
 
-pub at_limit_accepted : verdict book_at_limit [] ≡ Accepted
+pub at_limit_accepted : verdict book_at_limit [] ≡ unrefused
 unfolding le16 le32 le64 int32 int64 soundness verdict check1 check2 check3 check4 check5 check6 check7 check8 check9 check17 check18 check10 source_of reads_locked locked_for first_of earlier unless at_record first_bad and_then header_of is_period is_date days_in entry_row constraint_row unit_row energy_row contract_row above_of below_of mode_with terms_ok mode_fits all some named_at factors_at basis_of counted_in constraint_divides contract_divides rises_by entry_has_sums total keyed
 at_limit_accepted = refl
 

@@ -1,12 +1,12 @@
 -- Every balance is explained: what the two calls promise, of the pool that its number finds. Assumes nothing.
+use Rattle.std.specs.Prelude.{Ok, Err}
 use Prim.Native.Nat.{ℕ}
 use mathlib.Core.Path.{◌≡◌, refl, sym, ap, ◌∙◌}
 use mathlib.Core.Bool.{Bool, true, false}
 use mathlib.Core.List.{List}
 use native.Mathlib.Omega.{arith}
 use Rattle.sections.proofs.Cases.{zero_one}
-use Rattle.sections.specs.declared.Verdict.{Verdict}
-use Rattle.sections.specs.declared.Verdict.TheVariants.{Accepted, Refused}
+use Rattle.sections.specs.Refusal.{Verdict}
 use Rattle.sharing.specs.Once.{has}
 use Rattle.book.specs.Book.{book_of}
 use Rattle.book.specs.Table.{locked_for, verdict}
@@ -31,20 +31,20 @@ module _ (b t : List ℕ) (number : ℕ) (r : PoolAnswer) (c : ℕ → CutAnswer
       → r ≡ pool_answer (balance_if v (answer_to (book_of b) (book_of (locked_for b t)) f))
       → ((index : ℕ) → c index ≡ cut_answer (cut_if v (cut_for (book_of b) (book_of (locked_for b t)) f index))) → r.refusal ≡ 0 → BalanceExplained b t number r c
   unfolding balance_if answer_to pool_answer balance_in cut_if cut_for has
-  explained Accepted v past e a d z = absurd (omega (arith, sym (ap (λ (w : PoolAnswer). w.refusal) a) ∙ z))
-  explained Accepted v (found p) e a d z =
+  explained (Ok _) v past e a d z = absurd (omega (arith, sym (ap (λ (w : PoolAnswer). w.refusal) a) ∙ z))
+  explained (Ok _) v (found p) e a d z =
       let x = every_balance_is_explained b t v number p e in
       record { pool = p; there = e; named = d; exact = rw a x.exact; above = x.above }
-  explained (Refused k place) v f e a d z = never (rw (sym (ap (λ (w : PoolAnswer). w.refusal) a) ∙ z) at (verdict_numbers b t k place v))
+  explained (Err x) v f e a d z = never (rw (sym (ap (λ (w : PoolAnswer). w.refusal) a) ∙ z) at (verdict_numbers b t x.number x.place v))
 
   -- where it is
   both_refuse : (v : Verdict) (f : Found) → r ≡ pool_answer (balance_if v (answer_to (book_of b) (book_of (locked_for b t)) f))
       → ((index : ℕ) → c index ≡ cut_answer (cut_if v (cut_for (book_of b) (book_of (locked_for b t)) f index))) → (r.refusal ≡ 0 → ⊥) → (index : ℕ)
       → ((c index).refusal ≡ r.refusal) × ((c index).place ≡ r.place)
   unfolding balance_if answer_to pool_answer cut_if cut_for cut_answer
-  both_refuse Accepted past a d z index = rw (d index, a) (refl, refl)
-  both_refuse Accepted (found p) a d z index = absurd (z (ap (λ (w : PoolAnswer). w.refusal) a))
-  both_refuse (Refused k place) f a d z index = rw (d index, a) (refl, refl)
+  both_refuse (Ok _) past a d z index = rw (d index, a) (refl, refl)
+  both_refuse (Ok _) (found p) a d z index = absurd (z (ap (λ (w : PoolAnswer). w.refusal) a))
+  both_refuse (Err x) f a d z index = rw (d index, a) (refl, refl)
 
 -- so every balance is explained, and what is no balance has no stages
 pub balances_are_explained : EveryBalanceIsExplained

@@ -21,7 +21,6 @@ use Rattle.settlement.proofs.Settled.{apart}
 use Rattle.nmas.specs.Rows.{text_of, RowFine}
 use Rattle.nmas.specs.declared.Row.{Row}
 use Rattle.nmas_reading.specs.Reading.{TextRead, all, part, rows_read, row_read, numbered_row}
-use Rattle.nmas_reading.specs.declared.RowsRead.TheVariants as rows
 use Rattle.nmas_reading.proofs.Once.{one_reading, one_spelling}
 use Rattle.nmas_file.specs.File.{instead, file_outcome}
 use Rattle.nmas_file.proofs.Fine.{file_rows_fine}

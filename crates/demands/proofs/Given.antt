@@ -3,7 +3,6 @@ use Prim.Native.Nat.{ℕ}
 use mathlib.Core.Path.{◌≡◌, sym, ap, ◌∙◌}
 use mathlib.Core.List.{List}
 use native.Mathlib.Omega.{arith}
-use lib.ListN.{length}
 use Rattle.ground.proofs.Put.{put_there}
 use Rattle.statement.specs.Lent.{Outcome, gives}
 use Rattle.answers.specs.declared.WrittenAnswer.{WrittenAnswer}

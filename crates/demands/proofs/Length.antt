@@ -1,4 +1,6 @@
 -- The length asked for before writing: what the two calls promise rests on one outcome, and so they can't disagree. By cases on it. Assumes nothing.
+use Rattle.std.specs.Prelude.{Ok}
+use Rattle.sections.specs.Refusal.{refused}
 use Prim.Native.Nat.{ℕ, ◌+◌, ◌*◌}
 use mathlib.Core.Path.{◌≡◌, refl, sym, ap, ◌∙◌}
 use mathlib.Core.Bool.{Bool, true, false, cond}
@@ -15,7 +17,6 @@ use Rattle.sharing.specs.Once.{has}
 use Rattle.book.specs.Book.{book_of}
 use Rattle.book.specs.Table.{locked_for}
 use Rattle.statement.specs.Lent.{Outcome, refuses, gives, length_for, answer_for, left_in}
-use Rattle.statement.specs.declared.Written.TheVariants as written
 use Rattle.statement.specs.declared.Line.{Line}
 use Rattle.settlement.specs.Settle.{outcome}
 use Rattle.settlement.proofs.Settled.{statement_long}
@@ -41,7 +42,7 @@ asked_first (refuses number place) l r s x a c =
     }
 asked_first (gives xs) l r s x a c = by (leb (length xs) (length l)) refl c.answer c.left
   where
-    by : (t : Bool) → leb (length xs) (length l) ≡ t → s ≡ written_answer (cond t (written.Length (length xs)) (written.Refused 13 0)) → x ≡ cond t (put l 0 xs) l → AskedFirst l r s x
+    by : (t : Bool) → leb (length xs) (length l) ≡ t → s ≡ written_answer (cond t (Ok (length xs)) (refused 13 0)) → x ≡ cond t (put l 0 xs) l → AskedFirst l r s x
     by true t e f =
         record {
           same = λ z. a ∙ sym e;

@@ -1,15 +1,13 @@
 -- By which numbers each call can refuse: those that 01's table has for it. Assumes nothing.
+use Rattle.std.specs.Prelude.{Option, None, Some, Ok, Err}
+use Rattle.sections.specs.declared.Refusal.{Refusal}
 use Prim.Native.Nat.{ℕ}
-use mathlib.Core.Path.{◌≡◌, refl}
+use mathlib.Core.Path.{◌≡◌, refl, ap}
 use mathlib.Core.Bool.{Bool, true, false, cond, ◌||◌}
 use mathlib.Core.List.{List, [], ◌∷◌}
 use lib.Dec.{eqb, leb}
 use Rattle.ground.specs.Inner.Each.{Each}
-use Rattle.sections.specs.Refusal.{unless, at_record, earlier, first_of}
-use Rattle.sections.specs.declared.Checked.{Checked}
-use Rattle.sections.specs.declared.Checked.TheVariants.{Good, Bad}
-use Rattle.sections.specs.declared.Verdict.{Verdict}
-use Rattle.sections.specs.declared.Verdict.TheVariants.{Accepted, Refused}
+use Rattle.sections.specs.Refusal.{unless, at_record, earlier, first_of, Verdict, unrefused, refused}
 use Rattle.sections.proofs.Cases.{zero_one}
 use Rattle.dispatch.specs.Dispatch.{rows_verdict}
 use Rattle.book.specs.Book.{book_of}
@@ -27,12 +25,18 @@ use Rattle.demands.specs.Demand1.{on_a_book, on_a_length, on_a_statement, on_rew
 
 -- a verdict, and an outcome, that refuses only by one of the numbers
 abbrev pub Among : List ℕ → Verdict → Type 0
-Among numbers v = (number place : ℕ) → v ≡ Refused number place → OneOf numbers number
+Among numbers v = (number place : ℕ) → v ≡ refused number place → OneOf numbers number
 
 abbrev pub Within : List ℕ → Outcome → Type 0
 Within numbers o = (number place : ℕ) → o ≡ refuses number place → OneOf numbers number
 
-not_refused : (number place : ℕ) → Accepted ≡ Refused number place → ⊥
+same_refusal : {a b : Refusal} → ◌≡◌ {A = Verdict} (Err a) (Err b) → a ≡ b
+same_refusal e = cc
+
+same_number : {k m number place : ℕ} → ◌≡◌ {A = Verdict} (refused k m) (refused number place) → k ≡ number
+same_number e = ap (λ (r : Refusal). r.number) (same_refusal e)
+
+not_refused : (number place : ℕ) → unrefused ≡ refused number place → ⊥
 not_refused number place e = zero_one cc
 
 pub or-true : (a b : Bool) → b ≡ true → (a || b) ≡ true
@@ -45,27 +49,27 @@ not_given xs number place e = zero_one cc
 -- ---- the table
 
 module _ (numbers : List ℕ) where
-  accepts : Among numbers Accepted
+  accepts : Among numbers unrefused
   accepts number place e = absurd (not_refused number place e)
 
-  among_one : (k at₀ : ℕ) → OneOf numbers k → Among numbers (Refused k at₀)
-  among_one k at₀ h number place e = let same : k ≡ number = cc in rw (← same) h
+  among_one : (k at₀ : ℕ) → OneOf numbers k → Among numbers (refused k at₀)
+  among_one k at₀ h number place e = rw (← same_number e) h
 
   among_unless : (t : Bool) (k : ℕ) → OneOf numbers k → Among numbers (unless t k)
   unfolding unless
   among_unless true k h = accepts
   among_unless false k h = among_one k 0 h
 
-  among_record : (k offset size : ℕ) (c : Checked) → OneOf numbers k → Among numbers (at_record k offset size c)
+  among_record : (k offset size : ℕ) (c : Option ℕ) → OneOf numbers k → Among numbers (at_record k offset size c)
   unfolding at_record
-  among_record k offset size Good h = accepts
-  among_record k offset size (Bad i) h = among_one k _ h
+  among_record k offset size None h = accepts
+  among_record k offset size (Some i) h = among_one k _ h
 
   among_first : (vs : List Verdict) → Each (Among numbers) vs → Among numbers (first_of vs)
   unfolding first_of earlier
   among_first [] h = accepts
-  among_first (Accepted ∷ vs) h = among_first vs h.1
-  among_first (Refused k at₀ ∷ vs) h = h.0
+  among_first (Ok _ ∷ vs) h = among_first vs h.1
+  among_first (Err x ∷ vs) h = h.0
 
 -- 1 to 9
 sound_numbers : (b : List ℕ) → Among on_a_book (soundness b)
@@ -130,8 +134,8 @@ more n h = or-true (eqb 11 n) _ (or-true (eqb 12 n) _ h)
 
 within_verdict : (v : Verdict) (o : Outcome) → Among on_a_book v → Within on_a_length o → Within on_a_length (outcome_if v o)
 unfolding outcome_if
-within_verdict Accepted o h w = w
-within_verdict (Refused k at₀) o h w = within_one on_a_length k at₀ (more k (h k at₀ refl))
+within_verdict (Ok _) o h w = w
+within_verdict (Err x) o h w = within_one on_a_length x.number x.place (more x.number (h x.number x.place refl))
 
 -- those of any call on a book, then 11, 12
 pub outcome_numbers : (b t : List ℕ) (account : ℕ) → Within on_a_length (outcome b t account)

@@ -10,7 +10,7 @@ use lib.Dec.{eqb}
 use lib.IntN.{ℤ, pos, nat_abs, ◌+ℤ◌, ◌*ℤ◌}
 use lib.ListN.{length}
 use Rattle.numbers.proofs.Ring.{times_cancel}
-use Rattle.sections.specs.declared.Verdict.TheVariants.{Accepted}
+use Rattle.sections.specs.Refusal.{unrefused}
 use Rattle.sections.proofs.Cases.{zero_one}
 use Rattle.ground.specs.Bytes.{AreBytes, i64_at}
 use Rattle.ground.specs.Inner.Each.{Each}
@@ -199,7 +199,7 @@ pub the_example_s_files : (payment_type : ℕ) (l : List ℕ) (r s : WrittenAnsw
 the_example_s_files payment_type l r s x y p q = let same = no_neighbours_figure.file book_a locked_a book_b locked_b 7 payment_type l r s x y two_pairs_agree p q in (same.answer, same.bytes)
 
 -- books that agree in all but their costs, and have these from the same dispatch rows; without a contract of kind 2, whatever is lent as the locked book
-pub costs_from_rows : (rows : List ℕ) (way : ℕ → Way) (b t c u : List ℕ) (account : ℕ) (l : List ℕ) (r s : WrittenAnswer) (x y : List ℕ) → verdict b t ≡ Accepted → verdict c u ≡ Accepted → costless_public (public_of (book_of b)) ≡ costless_public (public_of (book_of c)) → rows_of_account (book_of b) account ≡ rows_of_account (book_of c) account → reads_locked (book_of b).contract (header_of b).contracts ≡ false → CostsMade rows way b → CostsMade rows way c → Called (outcome b t account) l r x → Called (outcome c u account) l s y → (r ≡ s) × (x ≡ y)
+pub costs_from_rows : (rows : List ℕ) (way : ℕ → Way) (b t c u : List ℕ) (account : ℕ) (l : List ℕ) (r s : WrittenAnswer) (x y : List ℕ) → verdict b t ≡ unrefused → verdict c u ≡ unrefused → costless_public (public_of (book_of b)) ≡ costless_public (public_of (book_of c)) → rows_of_account (book_of b) account ≡ rows_of_account (book_of c) account → reads_locked (book_of b).contract (header_of b).contracts ≡ false → CostsMade rows way b → CostsMade rows way c → Called (outcome b t account) l r x → Called (outcome c u account) l s y → (r ≡ s) × (x ≡ y)
 costs_from_rows rows way b t c u account l r s x y first second public own none made also p q =
     let unread : LockedAgree b t u account = record { read = λ e. absurd (zero_one (cc (sym none ∙ e))) } in
     let same = costs_are_public.made rows way b t c u account l r s x y (record { first = first; second = second; public = public; own_rows = own; locked_parts = unread }) made also p q in
@@ -244,7 +244,7 @@ module _ (b l : List ℕ) (number : ℕ) (r : PoolAnswer) (c : ℕ → CutAnswer
 -- ---- the limit
 
 -- either way, of every account, whatever is lent as the locked book
-pub within_either_way : (b t : List ℕ) (account : ℕ) → verdict b t ≡ Accepted → Each (λ line. nat_abs line.amount ≤ 50_000_000_000) (lines_for (book_of b) (book_of (locked_for b t)) account)
+pub within_either_way : (b t : List ℕ) (account : ℕ) → verdict b t ≡ unrefused → Each (λ line. nat_abs line.amount ≤ 50_000_000_000) (lines_for (book_of b) (book_of (locked_for b t)) account)
 within_either_way b t account e = sizes (lines_for (book_of b) (book_of (locked_for b t)) account) (no_line_passes_the_limit.lines b t account e)
   where
     sizes : (lines : List Line) → Each WithinLimit lines → Each (λ line. nat_abs line.amount ≤ 50_000_000_000) lines
@@ -252,5 +252,5 @@ within_either_way b t account e = sizes (lines_for (book_of b) (book_of (locked_
     sizes (line ∷ lines) h = (h.0.small, sizes lines h.1)
 
 -- the example's line is just as large, so that no smaller limit holds of every line
-pub limit_is_reached : (n : ℕ) → ((b t : List ℕ) (account : ℕ) → verdict b t ≡ Accepted → Each (λ line. nat_abs line.amount ≤ n) (lines_for (book_of b) (book_of (locked_for b t)) account)) → 50_000_000_000 ≤ n
+pub limit_is_reached : (n : ℕ) → ((b t : List ℕ) (account : ℕ) → verdict b t ≡ unrefused → Each (λ line. nat_abs line.amount ≤ n) (lines_for (book_of b) (book_of (locked_for b t)) account)) → 50_000_000_000 ≤ n
 limit_is_reached n h = (rw at_limit_line at (h book_at_limit [] 7 at_limit_accepted)).0

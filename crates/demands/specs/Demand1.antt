@@ -3,7 +3,7 @@
 -- and x what it holds then.
 use Rattle.std.specs.Prelude.{ℕ, ◌≤◌, ◌<◌, ◌≡◌, true, List, [], ◌∷◌, ◌⊎◌, pos, length}
 use Rattle.ground.specs.Put.{put}
-use Rattle.sections.specs.declared.Verdict.TheVariants.{Accepted, Refused}
+use Rattle.sections.specs.Refusal as verdicts
 use Rattle.dispatch.specs.Dispatch.{payment, base_cost}
 use Rattle.book.specs.Table.{verdict}
 use Rattle.sharing.specs.Once.{has}
@@ -95,8 +95,8 @@ pub data Answered (numbers : List ℕ) (o : Outcome) (l : List ℕ) (r : Written
 
 abbrev pub CheckAnswered : List ℕ → List ℕ → VerdictAnswer → Type 0
 CheckAnswered b locked r =
-    ((verdict b locked ≡ Accepted) × (r ≡ record { refusal = 0; place = 0 }))
-    ⊎ ((verdict b locked ≡ Refused r.refusal r.place) × OneOf on_a_book r.refusal)
+    ((verdict b locked ≡ verdicts.unrefused) × (r ≡ record { refusal = 0; place = 0 }))
+    ⊎ ((verdict b locked ≡ verdicts.refused r.refusal r.place) × OneOf on_a_book r.refusal)
 
 abbrev pub LengthAnswered : WrittenAnswer → Type 0
 LengthAnswered r =

@@ -1,6 +1,8 @@
 -- Demand 2. "Every line is the guide's, to the stated rounding, sign included. Each pool's lines over all accounts miss its amount by no more
 -- than the stated half units. A statement written and read gives the same lines; read and written, the same bytes."
-use Rattle.std.specs.Prelude.{ℕ, zero, suc, ◌+◌, ◌*◌, ◌≤◌, ◌<◌, ◌^◌, ◌≡◌, cond, not, List, [], ◌∷◌, ℤ, pos, nat_abs, ◌+ℤ◌, length}
+use Rattle.std.specs.Prelude.{Result, Ok, ℕ, zero, suc, ◌+◌, ◌*◌, ◌≤◌, ◌<◌, ◌^◌, ◌≡◌, cond, not, List, [], ◌∷◌, pos, nat_abs, ◌+ℤ◌, length}
+use Rattle.sections.specs.declared.Refusal.{Refusal}
+use Rattle.sections.specs.Refusal.{refused}
 use Rattle.ground.specs.Bytes.{AreBytes, part, u64_at, i64_at}
 use Rattle.book.specs.Header.{header_of}
 use Rattle.book.specs.Book.{book_of}
@@ -12,9 +14,6 @@ use Rattle.statement.specs.Statement.{statement_bytes}
 use Rattle.statement.specs.declared.Heading.{Heading}
 use Rattle.statement.specs.declared.Line.{Line}
 use Rattle.reading.specs.Calls.{heading_read, line_read}
-use Rattle.reading.specs.declared.LineRead.{LineRead}
-use Rattle.reading.specs.declared.LineRead.TheVariants as line
-use Rattle.reading.specs.declared.HeadingRead.TheVariants as heading
 use Rattle.settlement.specs.Settle.{heading_of}
 use Rattle.balance.specs.Pools.{Pool, found, pools_in, pool_at, in_pool}
 use Rattle.balance.specs.Balance.{accounts_of, balance_of}
@@ -43,9 +42,9 @@ abbrev pub guide_statement : List ℕ → List ℕ → ℕ → List ℕ
 guide_statement b locked account = statement_bytes (guide_heading b locked account) (lines_by_the_guide b locked account)
 
 -- line i of a list: "numbered from 0"; 15 past the end
-unfoldable pub numbered : List Line → ℕ → LineRead
-numbered [] i = line.Refused 15 0
-numbered (l ∷ ls) zero = line.Line l
+unfoldable pub numbered : List Line → ℕ → Result Line Refusal
+numbered [] i = refused 15 0
+numbered (l ∷ ls) zero = Ok l
 numbered (l ∷ ls) (suc i) = numbered ls i
 
 -- what a call left in the buffer that it says it wrote
@@ -56,7 +55,7 @@ pub record StatementIsTheGuides (b locked : List ℕ) (account : ℕ) (l : List 
   -- "every line is the guide's", and so is the header
   pub bytes : Gives (guide_statement b locked account) l r x
   -- "a statement written and read gives the same lines": what the header call and the line call then answer of it
-  pub heading : heading_answer (heading_read (front r x)) ≡ heading_answer (heading.Heading (guide_heading b locked account))
+  pub heading : heading_answer (heading_read (front r x)) ≡ heading_answer (Ok (guide_heading b locked account))
   pub lines : (index : ℕ) → entry_answer (line_read (front r x) index) ≡ entry_answer (numbered (lines_by_the_guide b locked account) index)
 
 -- ---- all lines of a statement at once

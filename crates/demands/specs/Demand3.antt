@@ -1,12 +1,11 @@
 -- Demand 3. "A charge depends on nothing of the neighbours'. Two accepted books that agree in date, interval, run, region totals,
 -- constraints, contracts and in one account's own energy and unit rows give that account, into equal buffers, the same bytes and the same
 -- refusals, whatever the other accounts hold."
-use Rattle.std.specs.Prelude.{ℕ, ◌≡◌, true, List, map}
+use Rattle.std.specs.Prelude.{Result, Ok, ℕ, ◌≡◌, true, List, map}
+use Rattle.sections.specs.declared.Refusal.{Refusal}
 use Rattle.ground.specs.Inner.Each.{Each}
-use Rattle.sections.specs.declared.Verdict.TheVariants.{Accepted}
+use Rattle.sections.specs.Refusal.{unrefused}
 use Rattle.dispatch.specs.Dispatch.{payment, base_cost}
-use Rattle.dispatch.specs.declared.Cost.{Cost}
-use Rattle.dispatch.specs.declared.Cost.TheVariants.{Amount}
 use Rattle.records.specs.declared.rows.Constraint.{Constraint}
 use Rattle.locking.specs.Locking.{reads_locked}
 use Rattle.book.specs.Header.{header_of}
@@ -24,8 +23,8 @@ pub record LockedAgree (b t u : List ℕ) (account : ℕ) : Type 0 where
 -- two accepted books b and c agree, with t and u lent as their locked books: `public_of` is date, interval, run, region totals, constraints and
 -- contracts, `rows_of_account` the account's own energy and unit rows
 pub record Agree (b t c u : List ℕ) (account : ℕ) : Type 0 where
-  pub first : verdict b t ≡ Accepted
-  pub second : verdict c u ≡ Accepted
+  pub first : verdict b t ≡ unrefused
+  pub second : verdict c u ≡ unrefused
   pub public : public_of (book_of b) ≡ public_of (book_of c)
   pub own : rows_of_account (book_of b) account ≡ rows_of_account (book_of c) account
   pub locked : LockedAgree b t u account
@@ -82,8 +81,8 @@ costless_public p =
 
 -- two accepted books agree but for their costs
 pub record AgreeButForCosts (b t c u : List ℕ) (account : ℕ) : Type 0 where
-  pub first : verdict b t ≡ Accepted
-  pub second : verdict c u ≡ Accepted
+  pub first : verdict b t ≡ unrefused
+  pub second : verdict c u ≡ unrefused
   pub public : costless_public (public_of (book_of b)) ≡ costless_public (public_of (book_of c))
   pub own_rows : rows_of_account (book_of b) account ≡ rows_of_account (book_of c) account
   pub locked_parts : LockedAgree b t u account
@@ -97,13 +96,13 @@ pub data Way : Type 0 where
   as_payment : Way
   as_base_cost : Way
 
-unfoldable pub made_from : List ℕ → Way → Constraint → Cost
+unfoldable pub made_from : List ℕ → Way → Constraint → Result ℕ Refusal
 made_from rows as_payment r = payment rows r.service
 made_from rows as_base_cost r = base_cost rows r.id r.service
 
 -- each cost of a book is made so; `way` says how, by the constraint's id
 abbrev pub CostsMade : List ℕ → (ℕ → Way) → List ℕ → Type 0
-CostsMade rows way b = Each (λ (r : Constraint). made_from rows (way r.id) r ≡ Amount r.cost) (public_of (book_of b)).constraints
+CostsMade rows way b = Each (λ (r : Constraint). made_from rows (way r.id) r ≡ Ok r.cost) (public_of (book_of b)).constraints
 
 pub record CostsArePublic : Type 0 where
   -- books that agree but for their costs, and have equal numbers in the fields of these, wherever these came from

@@ -2,7 +2,7 @@
 -- either way". A line is a rounded share of a pool, by a factor or an own energy that is no larger than the whole, and every pool is within the limit.
 use Rattle.std.specs.Prelude.{ℕ, ◌≡◌, cond, List}
 use Rattle.ground.specs.Inner.Each.{Each}
-use Rattle.sections.specs.declared.Verdict.TheVariants.{Accepted}
+use Rattle.sections.specs.Refusal.{unrefused}
 use Rattle.book.specs.Book.{book_of}
 use Rattle.book.specs.Table.{locked_for, verdict}
 use Rattle.accounts.specs.Account.{Public, Rows, LockedPart, public_of, rows_of_account, locked_of, unnamed}
@@ -24,6 +24,6 @@ outcome_without12 b locked account =
 
 pub record NoLinePassesTheLimit : Type 0 where
   -- of every accepted book, whatever is lent as the locked one, and of every account, named by a row or not
-  pub lines : (b locked : List ℕ) (account : ℕ) → verdict b locked ≡ Accepted → Each WithinLimit (lines_for (book_of b) (book_of (locked_for b locked)) account)
+  pub lines : (b locked : List ℕ) (account : ℕ) → verdict b locked ≡ unrefused → Each WithinLimit (lines_for (book_of b) (book_of (locked_for b locked)) account)
   -- so on any bytes the table with 12 and the table without it come to the same
   pub unchanged : (b locked : List ℕ) (account : ℕ) → outcome b locked account ≡ outcome_without12 b locked account

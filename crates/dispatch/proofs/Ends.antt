@@ -6,22 +6,18 @@ use mathlib.Core.List.{List}
 use native.Mathlib.Omega.{arith}
 use native.Mathlib.Nat.{zero-add}
 use borrow.Author.Tests.{lt-leb, eq-eqb, ne_eqb}
-use lib.Dec.{leb}
 use lib.ListN.{length}
 use Rattle.sections.specs.First.{first_bad}
-use Rattle.sections.specs.Refusal.{at_record}
-use Rattle.sections.specs.declared.Verdict.{Verdict}
-use Rattle.sections.specs.declared.Verdict.TheVariants as verdict
-use Rattle.sections.specs.declared.Checked.TheVariants.{Good}
+use Rattle.sections.specs.Refusal.{Verdict, at_record, refused}
+use Rattle.sections.specs.declared.Refusal.{Refusal}
+use Rattle.std.specs.Prelude.{None, Result, Ok, Err}
 use Rattle.sections.proofs.First.{first_stop, first_all}
 use Rattle.dispatch.specs.Dispatch.{dispatch_row, rows_in, sum_with, row_ok, rows_verdict, cost_if, base_cost}
 use Rattle.dispatch.specs.Inner.Pass.{amountless}
-use Rattle.dispatch.specs.declared.Cost.{Cost}
-use Rattle.dispatch.specs.declared.Cost.TheVariants.{Amount, Refused}
 
 module _ (s : List ℕ) where
   -- at a row with a fault; b is what its test answered
-  pub pass_stop : (i amount : ℕ) {b : Bool} → first_bad (row_ok s) i ≡ Good → b ≡ row_ok s i → not b ≡ true → i < rows_in s → Refused 16 (i * 16) ≡ cost_if (rows_verdict s) amount
+  pub pass_stop : (i amount : ℕ) {b : Bool} → first_bad (row_ok s) i ≡ None → b ≡ row_ok s i → not b ≡ true → i < rows_in s → refused 16 (i * 16) ≡ cost_if (rows_verdict s) amount
   unfolding rows_verdict at_record cost_if
   pass_stop i amount g e t l = rw (← first_stop (row_ok s) i (rows_in s) g e t l, zero-add)
 
@@ -30,11 +26,11 @@ module _ (s : List ℕ) where
   cut_short i l = rw (lt-leb ((i + 1) * 16) (length s) l)
 
   -- at a piece behind the last whole row
-  pub pass_short : (i n amount : ℕ) → first_bad (row_ok s) i ≡ Good → i ≡ n → length s < (n + 1) * 16 → n * 16 < length s → Refused 16 (n * 16) ≡ cost_if (rows_verdict s) amount
+  pub pass_short : (i n amount : ℕ) → first_bad (row_ok s) i ≡ None → i ≡ n → length s < (n + 1) * 16 → n * 16 < length s → refused 16 (n * 16) ≡ cost_if (rows_verdict s) amount
   pass_short i n amount g e h l = pass_stop n amount (rw e at g) (cut_short n h) refl (omega arith)
 
   -- behind the last row, where nothing is left
-  pub pass_all : (i id service : ℕ) {a : ℕ} → first_bad (row_ok s) i ≡ Good → a ≡ sum_with (dispatch_row s) id service i → i ≡ length s / 16 → length s ≤ i * 16 → Amount a ≡ cost_if (rows_verdict s) (sum_with (dispatch_row s) id service (rows_in s))
+  pub pass_all : (i id service : ℕ) {a : ℕ} → first_bad (row_ok s) i ≡ None → a ≡ sum_with (dispatch_row s) id service i → i ≡ length s / 16 → length s ≤ i * 16 → Ok a ≡ cost_if (rows_verdict s) (sum_with (dispatch_row s) id service (rows_in s))
   unfolding rows_verdict at_record cost_if
   pass_all i id service g d e l =
       let n : i ≡ rows_in s = omega arith in
@@ -44,11 +40,11 @@ module _ (s : List ℕ) where
 
 amountless_is : (v : Verdict) (sum : ℕ) → amountless (cost_if v sum) ≡ cost_if v 0
 unfolding amountless cost_if
-amountless_is verdict.Accepted sum = refl
-amountless_is (verdict.Refused number place) sum = refl
+amountless_is (Ok _) sum = refl
+amountless_is (Err _) sum = refl
 
-module _ (s : List ℕ) (id service : ℕ) {c : Cost} (e : c ≡ cost_if (rows_verdict s) (sum_with (dispatch_row s) id service (rows_in s))) where
-  pub base_none : {n : Cost} → id ≡ 0 → n ≡ amountless c → n ≡ base_cost s id service
+module _ (s : List ℕ) (id service : ℕ) {c : Result ℕ Refusal} (e : c ≡ cost_if (rows_verdict s) (sum_with (dispatch_row s) id service (rows_in s))) where
+  pub base_none : {n : Result ℕ Refusal} → id ≡ 0 → n ≡ amountless c → n ≡ base_cost s id service
   unfolding base_cost
   base_none z q = rw (eq-eqb id 0 z) (q ∙ ap amountless e ∙ amountless_is (rows_verdict s) _)
 

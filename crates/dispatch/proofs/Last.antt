@@ -1,12 +1,12 @@
 -- The last of so many rows: its key, and what its id and service come to, from its rows passed backwards. Assumes nothing.
-use Prim.Native.Nat.{ℕ, zero, suc, ◌+◌, ◌-◌, ◌*◌, ◌/◌, ◌≤◌, ◌<◌}
+use Prim.Native.Nat.{ℕ, zero, suc, ◌+◌, ◌-◌, ◌/◌, ◌≤◌, ◌<◌}
 use mathlib.Core.Path.{◌≡◌, refl, sym, ap, ◌∙◌}
 use mathlib.Core.List.{List}
 use native.Mathlib.Omega.{arith}
 use mathlib.Core.Logic.{⊎_elim}
 use native.Mathlib.Nat.{le_refl, eq-or-lt_of_le}
 use Rattle.sections.specs.First.{first_bad}
-use Rattle.sections.specs.declared.Checked.TheVariants.{Good}
+use Rattle.std.specs.Prelude.{None}
 use Rattle.dispatch.specs.Dispatch.{dispatch_row, amount_of, sum_with, row_ok}
 use Rattle.dispatch.specs.Inner.Keys.{id_service_region}
 use Rattle.dispatch.specs.Inner.Pass.{last_key, last_sum}
@@ -43,7 +43,7 @@ module _ (s : List ℕ) where
       omega (arith, rw none at b.rest, sum_none (dispatch_row s) (dispatch_row s (i - 1)).id (dispatch_row s (i - 1)).service)
 
   -- a turn: r is row j - 1, x its key, and k the last row's
-  module _ (i j : ℕ) {run x k : ℕ} {r : DispatchRow} (g : first_bad (row_ok s) i ≡ Good) (b : Back i j run) (l : 0 < j) (e : r ≡ dispatch_row s (j - 1)) (p : x ≡ id_service_region r) (q : k ≡ last_key (dispatch_row s) i) where
+  module _ (i j : ℕ) {run x k : ℕ} {r : DispatchRow} (g : first_bad (row_ok s) i ≡ None) (b : Back i j run) (l : 0 < j) (e : r ≡ dispatch_row s (j - 1)) (p : x ≡ id_service_region r) (q : k ≡ last_key (dispatch_row s) i) where
     range : (m : ℕ) → m < i → Ranged (dispatch_row s m)
     range m h = (each s i g m h).range
 

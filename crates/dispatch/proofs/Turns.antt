@@ -17,7 +17,7 @@ use Rattle.sections.specs.First.{first_bad}
 use Rattle.sections.specs.Order.{rises_by}
 use Rattle.sections.specs.Total.{keyed}
 use Rattle.sections.specs.Inner.Order.{Keeps}
-use Rattle.sections.specs.declared.Checked.TheVariants.{Good}
+use Rattle.std.specs.Prelude.{None}
 use Rattle.sections.proofs.Cases.{cond_same}
 use Rattle.sections.proofs.First.{first_none, first_more, first_each}
 use Rattle.sections.proofs.Order.{rises_first, rises_later, rises_step, keeps}
@@ -169,7 +169,7 @@ in_place true b b' c d d' f g = rw (f refl) (by b' refl)
 module _ (s : List ℕ) where
   -- the rows before i have no fault, `before` is the last one's key, and `run` what its id and service came to
   pub record Passed (i before run : ℕ) : Type 0 where
-    pub good : first_bad (row_ok s) i ≡ Good
+    pub good : first_bad (row_ok s) i ≡ None
     pub key : before ≡ last_key (dispatch_row s) i
     pub sum : run ≡ last_sum (dispatch_row s) i
 
@@ -177,14 +177,14 @@ module _ (s : List ℕ) where
   unfolding last_key last_sum
   passed_none = record { good = first_none (row_ok s); key = refl; sum = refl }
 
-  pub each : (i : ℕ) → first_bad (row_ok s) i ≡ Good → (j : ℕ) → j < i → Faultless s j
+  pub each : (i : ℕ) → first_bad (row_ok s) i ≡ None → (j : ℕ) → j < i → Faultless s j
   each i g j l = faultless s j (first_each (row_ok s) i g j l)
 
-  pub rising : (i : ℕ) → first_bad (row_ok s) i ≡ Good → Rising (dispatch_row s) i
+  pub rising : (i : ℕ) → first_bad (row_ok s) i ≡ None → Rising (dispatch_row s) i
   rising i g = record { range = λ j l. (each i g j l).range; rises = λ j l. (each i g j l).rises }
 
   -- no sum so far passes the limit
-  pub last_limit : (i : ℕ) → first_bad (row_ok s) i ≡ Good → last_sum (dispatch_row s) i ≤ money_limit
+  pub last_limit : (i : ℕ) → first_bad (row_ok s) i ≡ None → last_sum (dispatch_row s) i ≤ money_limit
   unfolding last_sum
   last_limit zero g = omega arith
   last_limit (suc k) g = rw add-one at (each (suc k) g k (le_refl (suc k))).sum

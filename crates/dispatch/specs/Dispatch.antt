@@ -2,18 +2,15 @@
 -- cost is marginal value x enablement / 12."
 -- Both are functions of the dispatch rows alone, in which no account has a figure. So a cost that is made here is public, as one that is typed in
 -- is: "Demands 2 and 3 read costs as public whichever way they came." (`CostsArePublic`, crates/demands/specs/Demand3.antt)
-use Rattle.std.specs.Prelude.{ℕ, ◌+◌, ◌*◌, ◌/◌, List, Bool, cond, ◌&&◌, ◌||◌, eqb, leb, ltb, length}
+use Rattle.std.specs.Prelude.{ℕ, ◌+◌, ◌*◌, ◌/◌, List, Bool, cond, ◌&&◌, ◌||◌, eqb, leb, ltb, length, Result, Ok, Err}
 use Rattle.numbers.specs.Round.{round_n}
 use Rattle.ground.specs.Bytes.{byte_at, u16_at, u32_at}
 use Rattle.ground.specs.Units.{money_limit, price_limit}
 use Rattle.sections.specs.First.{first_bad}
 use Rattle.sections.specs.Order.{rises_by, pair_below}
-use Rattle.sections.specs.Refusal.{at_record}
+use Rattle.sections.specs.Refusal.{Verdict, at_record}
 use Rattle.sections.specs.Total.{keyed, total_of}
-use Rattle.sections.specs.declared.Verdict.{Verdict}
-use Rattle.sections.specs.declared.Verdict.TheVariants as verdict
-use Rattle.dispatch.specs.declared.Cost.{Cost}
-use Rattle.dispatch.specs.declared.Cost.TheVariants.{Amount, Refused}
+use Rattle.sections.specs.declared.Refusal.{Refusal}
 use Rattle.dispatch.specs.declared.DispatchRow.{DispatchRow}
 
 -- ---- the rows
@@ -85,16 +82,16 @@ row_ok s i =
 unfoldable pub rows_verdict : List ℕ → Verdict
 rows_verdict s = at_record 16 0 16 (first_bad (row_ok s) (rows_in s))
 
-unfoldable pub cost_if : Verdict → ℕ → Cost
-cost_if verdict.Accepted amount = Amount amount
-cost_if (verdict.Refused number place) amount = Refused number place
+unfoldable pub cost_if : Verdict → ℕ → Result ℕ Refusal
+cost_if (Ok _) amount = Ok amount
+cost_if (Err e) amount = Err e
 
 -- ---- the calls
 
 -- "Id 0 marks a payment row"; "A service's payment"
-unfoldable pub payment : List ℕ → ℕ → Cost
+unfoldable pub payment : List ℕ → ℕ → Result ℕ Refusal
 payment s service = cost_if (rows_verdict s) (sum_with (dispatch_row s) 0 service (rows_in s))
 
 -- "any other id names a constraint and its price is the marginal value"; "an id's base cost per service": payment rows are nobody's
-unfoldable pub base_cost : List ℕ → ℕ → ℕ → Cost
+unfoldable pub base_cost : List ℕ → ℕ → ℕ → Result ℕ Refusal
 base_cost s id service = cost_if (rows_verdict s) (cond (eqb id 0) 0 (sum_with (dispatch_row s) id service (rows_in s)))

@@ -3,23 +3,16 @@
 // as all rows are ordinary, since no sum can then pass the limit.
 #![tactic(auto)]
 
-ghost use Rattle.std.specs.Prelude.{◌≡◌, true, cond, ◌&&◌, ◌+◌, ◌*◌, ◌/◌, ◌≤◌, eqb, leb, ltb, length};
+ghost use Rattle.std.specs.Prelude.{◌≡◌, true, cond, ◌&&◌, ◌+◌, ◌*◌, ◌/◌, ◌≤◌, eqb, leb, ltb, length, None};
 ghost use Rattle.ground.specs.Units.{money_limit};
 ghost use Rattle.sections.specs.First.{first_bad};
-ghost use Rattle.sections.specs.declared.Checked.{Checked};
 ghost use Rattle.dispatch.specs.Dispatch.{dispatch_row, rows_in, row_in_range, product_of, product_limit, amount_of, sum_with, row_ok, rows_verdict, cost_if, payment, base_cost};
 ghost use Rattle.dispatch.specs.Inner.Keys.{id_service_region};
 ghost use Rattle.dispatch.specs.Inner.Pass.{last_key, last_sum, ordinary_product, FrontIs, amountless};
 
 use ground::read;
 use numbers::{round, wide};
-
-// A payment or a base cost in units of money, or the refusal's number and place.
-#[derive(Clone, Copy)]
-pub enum Cost {
-    Amount(u64),
-    Refused(u8, usize),
-}
+use sections::Refusal;
 
 // 16 bytes. Of a payment row, which has id 0, price is the service's price in the region; of any other it is the constraint's marginal value.
 #[derive(Clone, Copy)]
@@ -136,15 +129,13 @@ fn ordinary_front(s: &[u8], count: usize, id: u32, service: u64) -> Front
 {
     let mut before = 0; // below each key, since a service is 1 at least
     let mut asked = 0;
-    let mut i = 0;
-    while i < count {
+    for i in 0..count {
         let r = dispatch_row(s, i);
         if !is_ordinary(r, before) {
             return Front { rows: i, asked };
         }
         asked = with_row(asked, r, is_asked(r, id, service));
         before = r.key();
-        i += 1;
     }
     Front { rows: count, asked }
 }
@@ -163,69 +154,68 @@ fn last_key(s: &[u8], i: usize) -> u64
 // What the last row's id and service came to: its rows are passed backwards, five at most.
 fn last_sum(s: &[u8], i: usize) -> u64
     requires i_in_bounds { i * 16 ≤ length s.now }
-    requires i_value { first_bad (row_ok s.now) i ≡ Checked.Good }
+    requires i_value { first_bad (row_ok s.now) i ≡ None }
     ensures { result ≡ last_sum (dispatch_row s.now) i }
 {
     let key = last_key(s, i);
     let mut run = 0;
-    let mut j = i;
-    while 0 < j {
-        let r = dispatch_row(s, j - 1);
+    for j in (0..i).rev() {
+        let r = dispatch_row(s, j);
         if r.key() / 256 != key / 256 {
             return run;
         }
         run += r.amount();
-        j -= 1;
     }
     run
 }
 
 // What the rows of an id and a service come to.
-fn tally(s: &[u8], id: u32, service: u64) -> Cost
+fn tally(s: &[u8], id: u32, service: u64) -> Result<u64, Refusal>
     ensures { result ≡ cost_if (rows_verdict s.now) (sum_with (dispatch_row s.now) id service (rows_in s.now)) }
 {
     let n = s.len() / 16;
     let front = ordinary_front(s, n, id, service);
-    let mut i = front.rows;
     let mut asked = front.asked;
-    let mut before = last_key(s, i);
-    let mut run = last_sum(s, i);
-    while i < n {
+    let mut before = last_key(s, front.rows);
+    let mut run = last_sum(s, front.rows);
+    for i in front.rows..n {
         let r = dispatch_row(s, i);
         let sum = sum_with(r, before, run);
         if !row_holds(r, before, sum) {
-            return Cost::Refused(16, i * 16);
+            return Err(Refusal {
+                number: 16,
+                place: i * 16,
+            });
         }
         asked = with_row(asked, r, is_asked(r, id, service));
         before = r.key();
         run = sum;
-        i += 1;
     }
     if n * 16 < s.len() {
-        return Cost::Refused(16, n * 16);
+        return Err(Refusal {
+            number: 16,
+            place: n * 16,
+        });
     }
-    Cost::Amount(asked)
+    Ok(asked)
 }
 
 // A service's payment: what its payment rows come to, which have id 0.
-pub fn payment(rows: &[u8], service: u64) -> Cost
+pub fn payment(rows: &[u8], service: u64) -> Result<u64, Refusal>
     ensures { result ≡ payment rows.now service }
 {
     tally(rows, 0, service)
 }
 
 // What was found, but for its amount.
-fn without_amount(found: Cost) -> Cost
+fn without_amount(found: Result<u64, Refusal>) -> Result<u64, Refusal>
     ensures { result ≡ amountless found }
 {
-    match found {
-        Cost::Amount(_amount) => Cost::Amount(0),
-        Cost::Refused(number, place) => Cost::Refused(number, place),
-    }
+    found.map(|_amount| 0)
 }
 
 // A constraint's base cost for a service. Id 0 is no constraint's: it has none.
-pub fn base_cost(rows: &[u8], id: u32, service: u64) -> Cost
+pub fn base_cost(rows: &[u8], id: u32, service: u64) -> Result<u64, Refusal>
     ensures { result ≡ base_cost rows.now id service }
 {
     let found = tally(rows, id, service);

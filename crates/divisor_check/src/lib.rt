@@ -15,22 +15,14 @@ ghost use Rattle.totals.specs.Divisors.{constraint_divides, funded_in, contract_
 use locking::Source;
 use market::Region;
 use records::rows;
-use sections::Checked;
 
 // The first constraint whose total to divide by is 0.
-pub fn constraints(regions: &[u8], cons: &[u8], n: usize) -> Checked
+pub fn constraints(regions: &[u8], cons: &[u8], n: usize) -> Option<usize>
     requires { (60 ≤ length regions.now) × (n * 40 ≤ length cons.now) }
     ensures { result ≡ first_bad (constraint_divides (entry_row regions.now) (constraint_row cons.now)) n }
 {
     let live = live::live_of(regions);
-    let mut j = 0;
-    while j < n {
-        if !live::divides(live, rows::constraint_row(cons, j)) {
-            return Checked::Bad(j);
-        }
-        j += 1;
-    }
-    Checked::Good
+    sections::first_bad(n, |j| live::divides(live, rows::constraint_row(cons, j)))
 }
 
 // A region with a benefit factor has consumers and generators to recover from.
@@ -47,11 +39,7 @@ fn all_funded(regions: &[u8], f: [u32; 5]) -> bool
     requires { 60 ≤ length regions.now }
     ensures { result ≡ all (λ g. funded_in (entry_row regions.now) (factor_of f g) g) 5 }
 {
-    funded(regions, f, Region::NSW1)
-        & funded(regions, f, Region::QLD1)
-        & funded(regions, f, Region::SA1)
-        & funded(regions, f, Region::TAS1)
-        & funded(regions, f, Region::VIC1)
+    sections::all(Region::COUNT, |g| funded(regions, f, Region::of(g as u8)))
 }
 
 // Whether all regions that contract k benefits are funded in the book that settles it.
@@ -66,16 +54,9 @@ fn contract_divides<'a>(book: &'a [u8], locked: &'a [u8], contracts: &[u8], k: u
 }
 
 // The first contract that benefits a region in which ACE or ASOE is 0 in the book that settles the contract.
-pub fn contracts<'a>(book: &'a [u8], locked: &'a [u8], contracts: &[u8], n: usize) -> Checked
+pub fn contracts<'a>(book: &'a [u8], locked: &'a [u8], contracts: &[u8], n: usize) -> Option<usize>
     requires { (84 ≤ length book.now) × ((84 ≤ length locked.now) × (n * 36 ≤ length contracts.now)) }
     ensures { result ≡ first_bad (λ k. contract_divides (pick (settled_by (contract_row contracts.now k)) (entry_row (part_from 24 book.now)) (entry_row (part_from 24 locked.now))) (contract_row contracts.now) k) n }
 {
-    let mut k = 0;
-    while k < n {
-        if !contract_divides(book, locked, contracts, k) {
-            return Checked::Bad(k);
-        }
-        k += 1;
-    }
-    Checked::Good
+    sections::first_bad(n, |k| contract_divides(book, locked, contracts, k))
 }

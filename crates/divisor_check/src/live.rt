@@ -35,13 +35,11 @@ pub(crate) fn live_of(regions: &[u8]) -> Live
     let mut ace: u64 = 0;
     let mut asoe: u64 = 0;
     let mut residual: u64 = 0;
-    let mut g = 0;
-    while g < Region::COUNT {
+    for g in 0..Region::COUNT {
         let e = rows::entry_row(regions, g);
         ace += bit_with(e.ace, g);
         asoe += bit_with(e.asoe, g);
         residual += bit_with(e.residual, g);
-        g += 1;
     }
     Live {
         ace,

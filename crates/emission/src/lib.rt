@@ -6,11 +6,11 @@ ghost use Rattle.std.specs.Prelude.{[], ◌∷◌, length};
 ghost use Rattle.rules.specs.Inner.Facts.{UnitRule};
 ghost use Rattle.amounts.specs.Inner.Bounds.{SmallPools, SmallResidual};
 ghost use Rattle.lines.specs.Lines.{unit_lines, rest_lines};
-ghost use Rattle.lines.specs.Inner.Shared.{Shared};
 ghost use Rattle.emission.specs.Inner.Emitted.{Emitted, LineRoom};
 
 use amounts::pools::{Pools, Residual};
 use lines::make;
+use lines::portion::Portion;
 use market::Mode;
 use records::rows::{Constraint, UnitRow};
 use statement::Line;
@@ -31,7 +31,8 @@ fn emit_three(buf: &mut [u8], place: usize, first: Line, second: Line, third: Li
     emit_two(buf, next, second, third)
 }
 
-// In mode 2 a unit has its unused line alone.
+// In mode 2 a unit has its unused line alone. A residual's lines go the same way, below: one function for both would take three closures or a trait
+// of three methods for its six lines, and would be no plainer.
 pub fn emit_unit(buf: &mut [u8], place: usize, r: Constraint, p: Pools, q: UnitRow) -> usize
     requires line_room { LineRoom buf.old place (length (unit_lines r p q)) }
     requires small_pools { SmallPools p }
@@ -53,18 +54,16 @@ pub fn emit_rest(
     place: usize,
     r: Constraint,
     x: Residual,
-    own: u64,
-    total: u64,
+    portion: Portion,
 ) -> usize
-    requires line_room { LineRoom buf.old place (length (rest_lines r x own total)) }
+    requires line_room { LineRoom buf.old place (length (rest_lines r x portion.own portion.total)) }
     requires small_residual { SmallResidual x }
-    requires shared { Shared own total }
-    ensures { Emitted buf.old place (rest_lines r x own total) buf.new result }
+    ensures { Emitted buf.old place (rest_lines r x portion.own portion.total) buf.new result }
 {
-    let unused = make::unused_rest(r, x, own, total);
+    let unused = make::unused_rest(r, x, portion);
     if r.mode == Mode::FACTORED {
-        let fpp = make::fpp_rest(r, x, own, total);
-        let used = make::used_rest(r, x, own, total);
+        let fpp = make::fpp_rest(r, x, portion);
+        let used = make::used_rest(r, x, portion);
         return emit_three(buf, place, fpp, used, unused);
     }
     statement::put_line(buf, place, unused)

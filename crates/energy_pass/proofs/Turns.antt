@@ -10,12 +10,12 @@ use borrow.Author.Count.{below_none, below_more}
 use borrow.Author.Tests.{not-true, not-false}
 use lib.ListN.{replicate}
 use lib.Seq.{ext_get_or}
+use Rattle.std.specs.Prelude.{Option, None, Some}
 use Rattle.ground.proofs.Every.{every, all}
 use Rattle.sections.specs.Order.{rises_by}
 use Rattle.sections.specs.Inner.Walk.{Split}
 use Rattle.sections.proofs.Cases.{same_answer, no_yes}
 use Rattle.sections.proofs.Order.{rises_first, rises_later, rises_step, key_below, below_key}
-use Rattle.sections.proofs.Search.{lt_or_ge}
 use Rattle.market.specs.declared.Basis.{Basis}
 use Rattle.market.specs.declared.Basis.TheVariants.{Ace, Asoe, Residual}
 use Rattle.rules.specs.Rules.{energy_below}
@@ -24,7 +24,7 @@ use Rattle.totals.specs.Sums.{row_by}
 use Rattle.totals.specs.Inner.Turns.{TotalsOf, SumRoom, Added}
 use Rattle.totals.specs.declared.entries.Totals.{Totals}
 use Rattle.totals.proofs.Turns.{totals_are, sums_room, totals_none, totals_more}
-use Rattle.energy_pass.specs.Inner.Energies.{account_region, row_holds, row_keeps, SummedIs}
+use Rattle.energy_pass.specs.Inner.Energies.{account_region, row_holds, row_keeps, EachKeeps, AllSummed}
 use Rattle.energy_pass.proofs.Rows.{RowHolds, row_says, row_said}
 
 -- a row that holds after some key holds after each smaller one
@@ -128,15 +128,9 @@ module _ (energy : ℕ → EnergyRow) where
               (eq-zero-or-pos i)
 
   module _ (i : ℕ) {before : ℕ} {t : Totals} {r : EnergyRow} {b : Bool} (s : Rows i before t) (e : r ≡ energy i) (q : b ≡ row_holds before r) where
-    -- the row's test failed: the rows before it are all that are taken
-    pub rows_stop : (n : ℕ) → i < n → not b ≡ true → SummedIs energy n i t
-    rows_stop n l f =
-        record {
-          high = omega arith;
-          each = s.each;
-          ended = λ _. sym (row_exact i before s) ∙ rw e at (sym q ∙ not-true b f);
-          sums = s.sums;
-        }
+    -- the row's test failed
+    pub rows_stop : (n : ℕ) → i < n → not b ≡ true → EachKeeps energy n → ⊥
+    rows_stop n l f h = no_yes (sym (row_exact i before s) ∙ rw e at (sym q ∙ not-true b f)) (h i l)
 
     module _ (f : not b ≡ false) {head : ℕ} (d : head ≡ r.region + 256 * r.spare) where
       held : RowHolds before r
@@ -168,30 +162,8 @@ module _ (energy : ℕ → EnergyRow) where
           (in_reach, sums_room energy _ i (omega arith) (λ b j k. let z = (keeps_says j (s.each j k)).fields in narrow_row b (energy j) (s.narrow j k) z.race z.rasoe) s.sums head in_reach)
 
   -- the loop's end: there is no row left
-  pub rows_all : (i n : ℕ) {before : ℕ} {t : Totals} → Rows i before t → i ≤ n → n ≤ i → SummedIs energy n n t
+  pub rows_all : (i n : ℕ) {before : ℕ} {t : Totals} → Rows i before t → i ≤ n → n ≤ i → AllSummed energy n t
   rows_all i n {before} {t} s l m =
       let e : i ≡ n = omega arith in
       let k : Rows n before t = rw e at s in
-      record { high = omega arith; each = k.each; ended = λ h. absurd (none h); sums = k.sums }
-    where
-      none : n < n → ⊥
-      none h = omega arith
-
-  -- no second number of rows and no other sums fit
-  pub summed_once : (n i j : ℕ) (t x : Totals) → SummedIs energy n i t → SummedIs energy n j x → (i ≡ j) × (t ≡ x)
-  summed_once n i j t x h g =
-      let same = place in
-      let other : SummedIs energy n i x = rw (← same) at g in (
-        same,
-        totals_are t x (λ b. split_once _ _ i (h.sums.each b) (other.sums.each b)),
-      )
-    where
-      place : i ≡ j
-      place =
-          ⊎_elim
-          (λ (a : i < j). absurd (no_yes (h.ended (omega (arith, g.high))) (g.each i a)))
-          (λ (a : j ≤ i). ⊎_elim
-          (λ (b : j < i). absurd (no_yes (g.ended (omega (arith, h.high))) (h.each j b)))
-          (λ (b : i ≤ j). omega arith)
-          (lt_or_ge j i))
-          (lt_or_ge i j)
+      record { each = k.each; sums = k.sums }

@@ -9,20 +9,14 @@ ghost use Rattle.rules.specs.Inner.Facts.{EntryRule};
 ghost use Rattle.totals.specs.Sums.{entry_is};
 ghost use Rattle.totals.specs.Inner.Totals.{sum_at};
 ghost use Rattle.energy_pass.specs.Inner.Holds.{energies_hold};
-ghost use Rattle.energy_pass.specs.Inner.Energies.{row_holds, SummedIs};
+ghost use Rattle.energy_pass.specs.Inner.Energies.{row_holds};
 
 use ground::read;
+use market::Region;
 use records::rows;
 use records::rows::EnergyRow;
 use totals::entries;
 use totals::entries::Totals;
-
-// How many rows hold before the first that does not, and their sums by region.
-#[derive(Clone, Copy)]
-pub struct Summed {
-    pub rows: usize,
-    pub totals: Totals,
-}
 
 // The region of row i and its three reserved bytes, as one number.
 fn head_at(energy: &[u8], i: usize) -> u32
@@ -47,47 +41,10 @@ fn row_holds(r: EnergyRow, head: u32, before: u64) -> bool
     (before < key_of(r.account, head)) & (head <= 4) & (r.race <= r.ace) & (r.rasoe <= r.asoe)
 }
 
-// The n energy rows in order, up to the first that does not hold.
-fn sum_rows(energy: &[u8], n: usize) -> Summed
-    requires { (n * 24 ≤ length energy.now) × (n ≤ 1024) }
-    ensures { SummedIs (energy_row energy.now) n result.rows result.totals }
-{
-    let mut ace = [0u64; 5];
-    let mut asoe = [0u64; 5];
-    let mut residual = [0u64; 5];
-    let mut before = 4_294_967_295;
-    let mut i = 0;
-    while i < n {
-        let r = rows::energy_row(energy, i);
-        let head = head_at(energy, i);
-        if !row_holds(r, head, before) {
-            return Summed {
-                rows: i,
-                totals: Totals {
-                    ace,
-                    asoe,
-                    residual,
-                },
-            };
-        }
-        entries::add_row(&mut ace, &mut asoe, &mut residual, r, head as usize);
-        before = key_of(r.account, head);
-        i += 1;
-    }
-    Summed {
-        rows: n,
-        totals: Totals {
-            ace,
-            asoe,
-            residual,
-        },
-    }
-}
-
 // Whether an entry has its region's sums.
-fn entry_holds(regions: &[u8], t: Totals, g: usize) -> bool
+fn entry_holds(regions: &[u8], t: &Totals, g: usize) -> bool
     requires { (60 ≤ length regions.now) × (g < 5) }
-    ensures { result ≡ entry_is (entry_row regions.now g) (sum_at t g) }
+    ensures { result ≡ entry_is (entry_row regions.now g) (sum_at t.now g) }
 {
     entries::entry_is(rows::entry_row(regions, g), t, g)
 }
@@ -98,14 +55,20 @@ pub fn energies_hold(regions: &[u8], energy: &[u8], n: usize) -> bool
     requires by_index { (g : ℕ) → g < 5 → EntryRule (entry_row regions.now g) }
     ensures { result ≡ energies_hold (energy_row energy.now) n (entry_row regions.now) }
 {
-    let s = sum_rows(energy, n);
-    if s.rows != n {
-        return false;
+    let mut totals = Totals::NONE;
+    let mut before = 4_294_967_295;
+    for i in 0..n {
+        let r = rows::energy_row(energy, i);
+        let head = head_at(energy, i);
+        if !row_holds(r, head, before) {
+            return false;
+        }
+        totals.add_row(r, head as usize);
+        before = key_of(r.account, head);
     }
-    let t = s.totals;
-    entry_holds(regions, t, 0)
-        & entry_holds(regions, t, 1)
-        & entry_holds(regions, t, 2)
-        & entry_holds(regions, t, 3)
-        & entry_holds(regions, t, 4)
+    let mut good = true;
+    for g in 0..Region::COUNT {
+        good &= entry_holds(regions, &totals, g); // no branch for a region
+    }
+    good
 }

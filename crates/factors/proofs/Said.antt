@@ -1,7 +1,7 @@
 -- What checks 7 and 8 say where they refuse nothing. Assumes nothing.
 use Prim.Native.Nat.{ℕ, ◌+◌, ◌<◌}
 use mathlib.Core.List.{[], ◌∷◌}
-use mathlib.Core.Path.{◌≡◌, refl, sym, ◌∙◌}
+use mathlib.Core.Path.{◌≡◌, refl, ◌∙◌}
 use mathlib.Core.Bool.{Bool, true, false, ◌&&◌, ◌||◌, not}
 use borrow.Author.Tests.{eqb-true, eqb-false, not-true}
 use lib.Dec.{eqb}
@@ -9,21 +9,20 @@ use native.Mathlib.Omega.{arith}
 use Rattle.ground.proofs.Every.{every}
 use Rattle.sections.specs.First.{first_bad}
 use Rattle.sections.specs.Inner.Walk.{Names}
-use Rattle.sections.specs.declared.Checked.TheVariants.{Good}
+use Rattle.std.specs.Prelude.{None}
 use Rattle.sections.proofs.First.{first_each}
 use Rattle.sections.proofs.Search.{some_found}
 use Rattle.records.specs.declared.rows.Constraint.{Constraint}
 use Rattle.records.specs.declared.rows.UnitRow.{UnitRow}
 use Rattle.factors.specs.Naming.{id_of, key_of, named_at}
-use Rattle.factors.specs.Inner.Facts.{Owner}
+use Rattle.factors.specs.Inner.Facts.{Owner, Whole, Plain}
 use Rattle.factors.specs.Factors.{factors_ok, factors_at, sum_over, no_factor}
-use Rattle.factors.specs.Inner.Facts.{Whole, Plain}
 use Rattle.factors.proofs.Runs.{none_is}
 
 -- ---- check 7
 
 module _ (con : ℕ → Constraint) (n : ℕ) (unit : ℕ → UnitRow) (m : ℕ) where
-  pub owner_of : first_bad (named_at con n unit) m ≡ Good → (u : ℕ) → u < m → Owner con n unit u
+  pub owner_of : first_bad (named_at con n unit) m ≡ None → (u : ℕ) → u < m → Owner con n unit u
   unfolding named_at
   owner_of g u l =
       let f = some_found (λ j. eqb (id_of con j) (key_of unit u) && not (eqb (con j).mode 0)) n (first_each (named_at con n unit) m g u l) in
@@ -65,7 +64,7 @@ plain r pcf ncf dcf none z m e =
     let s = eqb-true (pcf + ncf) 0 (z ∙ h.0) in
     record { pcf = omega arith; ncf = omega arith; dcf = eqb-true (dcf + r.drcf) 1_000_000 h.1.0 }
 
-module _ (unit : ℕ → UnitRow) (m : ℕ) (con : ℕ → Constraint) (n : ℕ) (g : first_bad (factors_at unit m con) n ≡ Good) (j : ℕ) (l : j < n) where
+module _ (unit : ℕ → UnitRow) (m : ℕ) (con : ℕ → Constraint) (n : ℕ) (g : first_bad (factors_at unit m con) n ≡ None) (j : ℕ) (l : j < n) where
   pub whole_of : (con j).mode ≡ 1 → Whole (con j) (sum_over unit m (con j).id (λ r. r.pcf)) (sum_over unit m (con j).id (λ r. r.ncf)) (sum_over unit m (con j).id (λ r. r.dcf))
   unfolding factors_at
   whole_of q = whole (con j) _ _ _ _ q (first_each (factors_at unit m con) n g j l)

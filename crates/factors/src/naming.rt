@@ -8,7 +8,6 @@ ghost use Rattle.factors.specs.Naming.{id_of, key_of, named_at};
 
 use market::Mode;
 use records::rows;
-use sections::Checked;
 
 // The place of the key among the constraints' ids, looked for from a place before which no id is as large.
 pub fn seek(cons: &[u8], n: usize, from: usize, key: u32) -> usize
@@ -16,15 +15,13 @@ pub fn seek(cons: &[u8], n: usize, from: usize, key: u32) -> usize
     requires under { Under (id_of (constraint_row cons.now)) from key }
     ensures { Sought (id_of (constraint_row cons.now)) n key result }
 {
-    let mut c = from;
-    while c < n {
+    for c in from..n {
         let r = rows::constraint_row(cons, c);
         if r.id >= key {
             return c;
         }
-        c += 1;
     }
-    c
+    n
 }
 
 // Whether unit row u, whose key has its place at c, names a constraint that is not of mode 0.
@@ -43,21 +40,20 @@ fn named(cons: &[u8], n: usize, units: &[u8], u: usize, c: usize) -> bool
 }
 
 // The first unit row that names no constraint here, or one of mode 0. The cursor c only moves forward.
-pub fn names(cons: &[u8], n: usize, units: &[u8], m: usize) -> Checked
+pub fn names(cons: &[u8], n: usize, units: &[u8], m: usize) -> Option<usize>
     requires n_in_bounds { (n * 40 ≤ length cons.now) × (m * 20 ≤ length units.now) }
     requires rises { Rises (id_of (constraint_row cons.now)) n }
     requires keeps { Keeps (key_of (unit_row units.now)) m }
     ensures { result ≡ first_bad (named_at (constraint_row cons.now) n (unit_row units.now)) m }
 {
     let mut c = 0;
-    let mut u = 0;
-    while u < m {
+    // Not `sections::first_bad`: a test that carries a cursor has a promise of every state that it comes to, which is no plainer than the loop.
+    for u in 0..m {
         let q = rows::unit_row(units, u);
         c = seek(cons, n, c, q.constraint);
         if !named(cons, n, units, u, c) {
-            return Checked::Bad(u);
+            return Some(u);
         }
-        u += 1;
     }
-    Checked::Good
+    None
 }

@@ -9,13 +9,13 @@ ghost use Rattle.rules.specs.Inner.Facts.{UnitRule};
 ghost use Rattle.totals.specs.Inner.Totals.{entry_of};
 ghost use Rattle.amounts.specs.Inner.Bounds.{SmallPools, SmallResidual};
 ghost use Rattle.lines.specs.Lines.{unit_lines, rest_lines, region_lines};
-ghost use Rattle.lines.specs.Inner.Shared.{Shared};
 ghost use Rattle.groups.specs.Inner.Each.{each_of, region_each};
 ghost use Rattle.lines.specs.Inner.Walks.{ContractSettles};
 
 use amounts::pools;
 use amounts::pools::{Pools, Residual};
 use lines::make;
+use lines::portion::Portion;
 use market::Mode;
 use records::rows;
 use records::rows::{Constraint, Contract, UnitRow};
@@ -36,7 +36,8 @@ pub fn region_count(factor: u32) -> usize
     if factor == 0 { 0 } else { 2 }
 }
 
-// Line i of a unit row. In mode 2 it has its unused line alone.
+// Line i of a unit row. In mode 2 it has its unused line alone. A residual's lines go the same way, below: one function for both would take three
+// closures or a trait of three methods, and would be no plainer.
 pub fn unit_line(r: Constraint, p: Pools, q: UnitRow, i: usize) -> Line
     requires i_in_bounds { i < length (unit_lines r p q) }
     requires small_pools { SmallPools p }
@@ -46,48 +47,48 @@ pub fn unit_line(r: Constraint, p: Pools, q: UnitRow, i: usize) -> Line
     if r.mode != Mode::FACTORED {
         return make::unused_line(r, p, q);
     }
-    if i == 0 {
-        return make::fpp_line(r, p, q);
+    match i {
+        0 => make::fpp_line(r, p, q),
+        1 => make::used_line(r, p, q),
+        _ => make::unused_line(r, p, q),
     }
-    if i == 1 {
-        return make::used_line(r, p, q);
-    }
-    make::unused_line(r, p, q)
 }
 
 // Line i of a constraint's residual. In mode 2 it has its unused line alone.
-pub fn rest_line(r: Constraint, x: Residual, own: u64, total: u64, i: usize) -> Line
-    requires i_in_bounds { i < length (rest_lines r x own total) }
+pub fn rest_line(r: Constraint, x: Residual, portion: Portion, i: usize) -> Line
+    requires i_in_bounds { i < length (rest_lines r x portion.own portion.total) }
     requires small_residual { SmallResidual x }
-    requires shared { Shared own total }
-    ensures { nth (rest_lines r x own total) i ≡ found result }
+    ensures { nth (rest_lines r x portion.own portion.total) i ≡ found result }
 {
     if r.mode != Mode::FACTORED {
-        return make::unused_rest(r, x, own, total);
+        return make::unused_rest(r, x, portion);
     }
-    if i == 0 {
-        return make::fpp_rest(r, x, own, total);
+    match i {
+        0 => make::fpp_rest(r, x, portion),
+        1 => make::used_rest(r, x, portion),
+        _ => make::unused_rest(r, x, portion),
     }
-    if i == 1 {
-        return make::used_rest(r, x, own, total);
-    }
-    make::unused_rest(r, x, own, total)
 }
 
 // Line i of a contract in region g.
-pub fn region_line(regions: &[u8], k: Contract, g: usize, own: Totals, i: usize) -> Line
+pub fn region_line(regions: &[u8], k: Contract, g: usize, own: &Totals, i: usize) -> Line
     requires in_bounds { (60 ≤ length regions.now) × (g < 5) }
-    requires contract_settles { ContractSettles (entry_row regions.now) k own }
-    requires i_in_bounds { i < length (region_lines (entry_row regions.now) (entry_of own) k g) }
-    ensures { nth (region_lines (entry_row regions.now) (entry_of own) k g) i ≡ found result }
+    requires contract_settles { ContractSettles (entry_row regions.now) k own.now }
+    requires i_in_bounds { i < length (region_lines (entry_row regions.now) (entry_of own.now) k g) }
+    ensures { nth (region_lines (entry_row regions.now) (entry_of own.now) k g) i ≡ found result }
 {
-    let factors = k.factors;
     let e = rows::entry_row(regions, g);
-    let x = pools::halves_of(k.payment, factors[g]);
+    let x = pools::halves_of(k.payment, k.factors[g]);
     if i == 0 {
-        let ace = own.ace;
-        return make::ace_line(k.id, g, x, ace[g], e.ace as u64);
+        let consumed = Portion {
+            own: own.ace[g],
+            total: e.ace as u64,
+        };
+        return make::ace_line(k.id, g, x, consumed);
     }
-    let asoe = own.asoe;
-    make::asoe_line(k.id, g, x, asoe[g], e.asoe as u64)
+    let sent = Portion {
+        own: own.asoe[g],
+        total: e.asoe as u64,
+    };
+    make::asoe_line(k.id, g, x, sent)
 }

@@ -25,7 +25,7 @@ use Rattle.numbers.proofs.Sizes.{minus_is, minus_to_zero, zero_to, either_way, l
 use Rattle.sections.specs.Total.{keyed}
 use Rattle.market.specs.declared.Basis.{Basis}
 use Rattle.market.specs.declared.Basis.TheVariants.{Ace, Asoe, Residual}
-use Rattle.sections.specs.declared.Verdict.TheVariants.{Accepted}
+use Rattle.sections.specs.Refusal.{unrefused}
 use Rattle.sections.proofs.Search.{all_each, all_of_lem}
 use Rattle.records.specs.Rows.{entry_row, constraint_row, unit_row, energy_row, contract_row}
 use Rattle.records.specs.declared.rows.Constraint.{Constraint}
@@ -274,7 +274,7 @@ module _ (b : List ℕ) (a : AreBytes b) (f : Fields (book_of b)) (j : ℕ) (l :
           ∙ all (two_tests r dcf none) (none_passes (h.none (sized.mode ∙ m)), (default_test.1 (h.defaults (live 1 m)), tt))
 
 -- for a book whose records keep check 5, check 8 passes a constraint exactly where its factors make 01's sums
-pub check_8_is_the_guides : (b : List ℕ) → AreBytes b → check5 (book_of b) ≡ Accepted → (j : ℕ) → j < (header_of b).constraints → (factors_at (book_of b).unit (header_of b).units (book_of b).constraint j ≡ true) ↔ FactorSums (signed_book b) ((signed_book b).constraint j)
+pub check_8_is_the_guides : (b : List ℕ) → AreBytes b → check5 (book_of b) ≡ unrefused → (j : ℕ) → j < (header_of b).constraints → (factors_at (book_of b).unit (header_of b).units (book_of b).constraint j ≡ true) ↔ FactorSums (signed_book b) ((signed_book b).constraint j)
 unfolding factors_at
 check_8_is_the_guides b a e j l = let f = fields_of (book_of b) e refl in (factors_hold b a f j l, factors_pass b a f j l)
 
@@ -321,6 +321,6 @@ module _ (b : List ℕ) (a : AreBytes b) (f : Fields (book_of b)) (g : ℕ) (l :
   entry_passes h = all tests (ace_test.1 h.ace, (asoe_test.1 h.asoe, (residual_test.1 h.residual, tt)))
 
 -- for a book whose records keep check 5, check 9 passes a region's entry exactly where it is its rows' sums
-pub check_9_is_the_guides : (b : List ℕ) → AreBytes b → check5 (book_of b) ≡ Accepted → (g : ℕ) → g < 5 → (entry_has_sums (book_of b).energy (header_of b).energies (book_of b).entry g ≡ true) ↔ EntrySums (signed_book b) g
+pub check_9_is_the_guides : (b : List ℕ) → AreBytes b → check5 (book_of b) ≡ unrefused → (g : ℕ) → g < 5 → (entry_has_sums (book_of b).energy (header_of b).energies (book_of b).entry g ≡ true) ↔ EntrySums (signed_book b) g
 unfolding entry_has_sums
 check_9_is_the_guides b a e g l = let f = fields_of (book_of b) e refl in (entry_holds b a f g l, entry_passes b a f g l)

@@ -8,7 +8,7 @@ use mathlib.Core.List.{List, [], ◌∷◌, ◌++◌}
 use lib.Dec.{eqb}
 use lib.IntN.{pos, neg_ℤ}
 use Rattle.ground.specs.Bytes.{AreBytes}
-use Rattle.sections.specs.declared.Verdict.TheVariants.{Accepted}
+use Rattle.sections.specs.Refusal.{unrefused}
 use Rattle.records.specs.Rows.{energy_row}
 use Rattle.records.specs.declared.rows.Entry.{Entry}
 use Rattle.records.specs.declared.rows.Contract.{Contract}
@@ -109,7 +109,7 @@ module _ (b l : List ℕ) (a : AreBytes b) (c : AreBytes l) (f : Fields (book_of
       (sym (joined_rows (book_of b).contract _ (header_of b).contracts) ∙ joined_same _ _ (header_of b).contracts contract_same)
 
 -- for every accepted book and every account, the lines that the statement call writes are the guide's
-pub every_line_is_the_guides : (b l : List ℕ) → AreBytes b → AreBytes (locked_for b l) → verdict b l ≡ Accepted → (account : ℕ) → lines_for (book_of b) (book_of (locked_for b l)) account ≡ guide_lines b (locked_for b l) account
+pub every_line_is_the_guides : (b l : List ℕ) → AreBytes b → AreBytes (locked_for b l) → verdict b l ≡ unrefused → (account : ℕ) → lines_for (book_of b) (book_of (locked_for b l)) account ≡ guide_lines b (locked_for b l) account
 every_line_is_the_guides b l a c v account =
     let p = (accepted b l v).promise in
     lines_same b (locked_for b l) a c p.sound.fields p.locked.fields account

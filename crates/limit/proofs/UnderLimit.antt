@@ -1,45 +1,20 @@
 -- 12: where no pool passes the limit, no line does. Assumes nothing.
-use Prim.Native.Nat.{ℕ, ◌+◌}
-use mathlib.Core.Path.{◌≡◌, refl, sym, ◌∙◌}
+use Prim.Native.Nat.{ℕ}
+use mathlib.Core.Path.{◌≡◌, sym, ◌∙◌}
 use mathlib.Core.Bool.{Bool, false, ◌||◌}
-use mathlib.Core.List.{List}
-use native.Mathlib.Numerals.{add-one}
 use borrow.Author.Tests.{le-ltb}
-use Rattle.ground.specs.Bytes.{part_from}
 use Rattle.sections.specs.Search.{some}
 use Rattle.sections.proofs.Search.{some_none}
-use Rattle.records.specs.Rows.{constraint_row, contract_row}
 use Rattle.rules.specs.Inner.Facts.{ConstraintRule}
 use Rattle.records.specs.declared.rows.Constraint.{Constraint}
 use Rattle.accounts.specs.declared.energies.OwnEnergies.{OwnEnergies}
-use Rattle.amounts.specs.Pools.{pools_of}
 use Rattle.amounts.proofs.Sizes.{pools_small}
-use Rattle.book.specs.Book.{Book, book_in}
-use Rattle.book.specs.Header.{contracts_from}
-use Rattle.book.specs.declared.header.Header.{Header}
+use Rattle.book.specs.Book.{Book}
 use Rattle.book.specs.Inner.Accepted.{Sound}
 use Rattle.lines.specs.Limit.{any_over}
 use Rattle.lines.proofs.Limit.{none_over, book_within}
 use Rattle.lines.specs.Inner.Walks.{book_lines, Walkable}
 use Rattle.limit.specs.Inner.Limits.{constraint_over, contract_over, book_over}
-
--- a loop over records that looks for one that passes a test
-module _ (p : ℕ → Bool) where
-  pub some_start : false ≡ some p 0
-  unfolding some
-  some_start = refl
-
-  pub some_more : (i : ℕ) {a b : Bool} → a ≡ some p i → b ≡ p i → (a || b) ≡ some p (i + 1)
-  unfolding some
-  some_more i e f = rw (add-one, e, f)
-
-  pub some_all : (i n : ℕ) {a : Bool} → a ≡ some p i → i ≡ n → a ≡ some p n
-  some_all i n e q = e ∙ rw q
-
--- the records of a book, where k is the place of its contracts
-pub book_over_lem : (b : List ℕ) (h : Header) (k : ℕ) {x y : Bool} → k ≡ contracts_from h → x ≡ some (λ j. constraint_over (constraint_row (part_from 84 b) j)) h.constraints → y ≡ some (λ i. contract_over (contract_row (part_from k b) i)) h.contracts → (x || y) ≡ book_over (book_in b h)
-unfolding book_over
-book_over_lem b h k e f g = rw (f, g, e)
 
 -- ---- the pools of an accepted book
 

@@ -6,13 +6,12 @@ ghost use Rattle.std.specs.Prelude.{◌≡◌, ℕ, ◌*◌, ◌≤◌, ◌<◌,
 ghost use Rattle.sections.specs.Search.{some};
 ghost use Rattle.records.specs.Rows.{constraint_row, contract_row};
 ghost use Rattle.rules.specs.Inner.Facts.{ConstraintRule};
-ghost use Rattle.book.specs.Book.{book_in};
-ghost use Rattle.book.specs.Inner.Facts.{Laid};
+ghost use Rattle.book.specs.Laid.{book_at};
 ghost use Rattle.book.specs.Inner.Accepted.{Sound};
 ghost use Rattle.limit.specs.Inner.Limits.{constraint_over, contract_over, book_over};
 
 use amounts::pools;
-use book::header::Header;
+use book::laid::LaidBook;
 use records::rows;
 use records::rows::Constraint;
 
@@ -29,35 +28,25 @@ fn constraints(cons: &[u8], n: usize) -> bool
     requires by_index { (j : ℕ) → j < n → ConstraintRule (constraint_row cons.now j) }
     ensures { result ≡ some (λ j. constraint_over (constraint_row cons.now j)) n }
 {
-    let mut over = false;
-    let mut j = 0;
-    while j < n {
-        over = over | constraint_over(rows::constraint_row(cons, j));
-        j += 1;
-    }
-    over
+    sections::some(n, |j| constraint_over(rows::constraint_row(cons, j)))
 }
 
 fn contracts(contracts: &[u8], n: usize) -> bool
     requires { n * 36 ≤ length contracts.now }
     ensures { result ≡ some (λ i. contract_over (contract_row contracts.now i)) n }
 {
-    let mut over = false;
-    let mut i = 0;
-    while i < n {
-        over = over | (50_000_000_000 < rows::contract_row(contracts, i).payment);
-        i += 1;
-    }
-    over
+    sections::some(
+        n,
+        |i| 50_000_000_000 < rows::contract_row(contracts, i).payment,
+    )
 }
 
 // Whether a pool of the book passes the limit.
-pub fn passed(book: &[u8], h: Header) -> bool
-    requires laid { Laid book.now h }
-    requires sound { Sound (book_in book.now h) }
-    ensures { result ≡ book_over (book_in book.now h) }
+pub fn passed(book: &LaidBook) -> bool
+    requires { Sound (book_at book.now) }
+    ensures { result ≡ book_over (book_at book.now) }
 {
-    let paid = h.contracts_at();
-    constraints(&book[84..], h.constraints as usize)
-        | contracts(&book[paid..], h.contracts as usize)
+    let h = book.header;
+    constraints(book.constraints(), h.constraints as usize)
+        | contracts(book.contracts(), h.contracts as usize)
 }

@@ -8,7 +8,6 @@ use lib.Dec.{eqb}
 use Rattle.ground.specs.Inner.Each.{Each}
 use Rattle.ground.proofs.Each.{each_append, each_choice}
 use Rattle.rules.specs.Rules.{factor_of}
-use Rattle.factors.specs.Naming.{key_of}
 use Rattle.totals.specs.Divisors.{over_regions}
 use Rattle.totals.specs.Inner.Totals.{entry_of}
 use Rattle.records.specs.declared.rows.Entry.{Entry}

@@ -19,6 +19,7 @@ fn main(rt: HostRuntime) -> io::Result<()> {
     let mut input = [0; 65_536];
     let mut stdin = rt.stdin();
     let mut n = 0;
+    // A read may give less than there is room for, and std has none that goes on until a slice is full or nothing more comes.
     while n < 65_536 {
         let more = stdin.read(&mut input[n..])?;
         if more == 0 {

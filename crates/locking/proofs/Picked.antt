@@ -1,9 +1,8 @@
 -- What holds of the current and of the locked book's holds of the one picked, and what a kind stands for. Assumes nothing.
 use Prim.Native.Nat.{ℕ}
-use mathlib.Core.Path.{◌≡◌, refl, sym, ◌∙◌}
+use mathlib.Core.Path.{◌≡◌, refl}
 use mathlib.Core.Bool.{Bool, true, false, cond, not}
 use lib.Dec.{eqb}
-use Rattle.sections.proofs.Cases.{zero_one}
 use Rattle.locking.specs.Locking.{source_of, pick}
 use Rattle.locking.specs.declared.Source.{Source}
 use Rattle.locking.specs.declared.Source.TheVariants.{Current, Locked}
@@ -20,20 +19,11 @@ picked_of f x y Locked = refl
 
 -- ---- by the kind
 
--- s is what a kind stands for
-module _ (kind : ℕ) {s : Source} (e : s ≡ source_of kind) where
-  pub current_told : s ≡ Current → true ≡ not (eqb kind 2)
-  unfolding source_of
-  current_told h = by (eqb kind 2) (sym e ∙ h)
-    where
-      by : (t : Bool) → cond t Locked Current ≡ Current → true ≡ not t
-      by true q = absurd (zero_one cc)
-      by false q = refl
-
-  pub locked_told : s ≡ Locked → false ≡ not (eqb kind 2)
-  unfolding source_of
-  locked_told h = by (eqb kind 2) (sym e ∙ h)
-    where
-      by : (t : Bool) → cond t Locked Current ≡ Locked → false ≡ not t
-      by true q = refl
-      by false q = absurd (zero_one cc)
+-- a test that only the current book passes is passed by the ordinary kinds
+pub ordinary_told : (f : Source → Bool) (kind : ℕ) → f Current ≡ true → f Locked ≡ false → f (source_of kind) ≡ not (eqb kind 2)
+unfolding source_of
+ordinary_told f kind a b = by (eqb kind 2)
+  where
+    by : (t : Bool) → f (cond t Locked Current) ≡ not t
+    by true = b
+    by false = a

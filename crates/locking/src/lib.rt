@@ -10,10 +10,9 @@ ghost use Rattle.locking.specs.Locking.{source_of, is_test, reads_locked};
 ghost use Rattle.locking.specs.Inner.Handed.{Handed};
 
 use records::rows;
-use sections::Checked;
 
 // Whose energies and region totals settle a contract.
-#[derive(Clone, Copy)]
+#[derive(Clone, Copy, PartialEq, Eq)]
 pub enum Source {
     Current,
     Locked,
@@ -47,25 +46,15 @@ fn is_ordinary(contracts: &[u8], k: usize) -> bool
     requires { (k + 1) * 36 ≤ length contracts.now }
     ensures { result ≡ not (is_test (contract_row contracts.now k)) }
 {
-    match Source::of(rows::contract_row(contracts, k).kind) {
-        Source::Current => true,
-        Source::Locked => false,
-    }
+    Source::of(rows::contract_row(contracts, k).kind) == Source::Current
 }
 
 // The first of n contracts that is a test payment.
-pub fn first_test(contracts: &[u8], n: usize) -> Checked
+pub fn first_test(contracts: &[u8], n: usize) -> Option<usize>
     requires { n * 36 ≤ length contracts.now }
     ensures { result ≡ first_bad (λ k. not (is_test (contract_row contracts.now k))) n }
 {
-    let mut k = 0;
-    while k < n {
-        if !is_ordinary(contracts, k) {
-            return Checked::Bad(k);
-        }
-        k += 1;
-    }
-    Checked::Good
+    sections::first_bad(n, |k| is_ordinary(contracts, k))
 }
 
 // The book that test payments are settled by: the locked one where one of the book's n contracts is a test payment. Where none is, the locked
@@ -75,7 +64,7 @@ pub fn settles_tests<'a>(book: &'a [u8], from: usize, n: usize, locked: &'a [u8]
     ensures { result.now ≡ cond (reads_locked (contract_row (part_from from book.now)) n) locked.now book.now }
 {
     match first_test(&book[from..], n) {
-        Checked::Good => book,
-        Checked::Bad(_) => locked,
+        None => book,
+        Some(_) => locked,
     }
 }

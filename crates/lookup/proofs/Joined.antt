@@ -1,19 +1,14 @@
 -- The element of a number among lists joined: what a loop over them needs to know. Assumes nothing.
 use Prim.Native.Nat.{ℕ, zero, suc, ◌+◌, ◌-◌, ◌≤◌, ◌<◌}
 use mathlib.Core.Path.{◌≡◌, refl, ◌∙◌}
-use mathlib.Core.List.{List, ◌∷◌}
+use mathlib.Core.List.{List}
 use mathlib.Core.Logic.{⊎_elim}
 use native.Mathlib.Nat.{eq-or-lt_of_le, not-suc-le-zero, le_of_suc-le-suc}
 use lib.ListN.{length}
 use Rattle.ground.specs.Nth.{found, past, nth}
-use Rattle.ground.proofs.Nth.{onward, nth_append, nth_front, nth_behind, nth_past}
-use Rattle.accounts.specs.Rows.{joined, concat_map}
+use Rattle.ground.proofs.Nth.{nth_front, nth_behind, nth_past}
+use Rattle.accounts.specs.Rows.{joined}
 use Rattle.accounts.proofs.Joined.{joined_more, joined_all}
-
--- what each row gives: its own list, and where that is passed, those of the rows behind it
-pub nth_concat : {A B : Type 0} (f : A → List B) (x : A) (xs : List A) (i : ℕ) → nth (concat_map f (x ∷ xs)) i ≡ onward (nth (f x) i) (nth (concat_map f xs))
-unfolding concat_map
-nth_concat f x xs i = nth_append (f x) (concat_map f xs) i
 
 module _ {A : Type 0} (f : ℕ → List A) (number : ℕ) where
   pub pass_none : nth (joined f 0) number ≡ past number

@@ -3,10 +3,10 @@ use Prim.Native.Nat.{ℕ, ◌+◌, ◌-◌, ◌≤◌, ◌<◌}
 use mathlib.Core.Path.{◌≡◌, refl, sym, ap, ◌∙◌}
 use mathlib.Core.Bool.{Bool, true, false, cond}
 use mathlib.Core.List.{List, []}
-use borrow.Author.Tests.{eqb-true, eq-eqb}
 use lib.Dec.{eqb}
 use lib.ListN.{length}
 use native.Mathlib.Omega.{arith}
+use Rattle.std.specs.Prelude.{Ok, Err}
 use Rattle.ground.specs.Nth.{found, past, nth}
 use Rattle.sections.specs.Inner.Walk.{Stands, Past}
 use Rattle.sections.proofs.Walk.{Run, run_start, run_next, run_stop, run_done}
@@ -24,8 +24,7 @@ use Rattle.lines.specs.Inner.Walks.{own_lines, unit_lines_at}
 use Rattle.groups.proofs.Numbering.{choice_length, unit_length}
 use Rattle.lines.proofs.UnitRows.{other_row, this_row}
 use Rattle.lookup.specs.Inner.Sought.{SoughtIn}
-use Rattle.lookup.specs.declared.constraint.Sought.TheVariants as sought
-use Rattle.lookup.proofs.Joined.{pass_more, pass_length, found_in}
+use Rattle.lookup.proofs.Joined.{pass_length, found_in}
 
 -- ---- one row, of which there are k lines
 
@@ -67,7 +66,7 @@ module _ (unit : ℕ → UnitRow) (m account : ℕ) (r : Constraint) (number : �
     pub run : Run (key_of unit) m r.id u
     pub passed : nth (joined of_row u) number ≡ past left
 
-  done : (left u : ℕ) → Seeking left u → Past (key_of unit) m r.id u → SoughtIn unit m r (joined of_row m) number (sought.Past u left)
+  done : (left u : ℕ) → Seeking left u → Past (key_of unit) m r.id u → SoughtIn unit m r (joined of_row m) number (Err (record { row = u; left = left }))
   unfolding SoughtIn
   done left u h a =
       (a, rw (← joined_rest of_row u m a.high (λ k i j. other_row unit account r (pools_of r) k (λ (e : key_of unit k ≡ r.id). omega (arith, a.over k i j)))) h.passed)
@@ -80,11 +79,11 @@ module _ (unit : ℕ → UnitRow) (m account : ℕ) (r : Constraint) (number : �
         passed = rw (joined_nothing of_row u (λ k h. other_row unit account r (pools_of r) k (λ (e : key_of unit k ≡ r.id). omega (arith, s.under k h))));
       }
 
-  pub seek_done : (left u : ℕ) → Seeking left u → m ≤ u → SoughtIn unit m r (joined of_row m) number (sought.Past u left)
-  seek_done left u h k = done left u h (run_done _ m r.id u h.run (omega (arith, h.run.high)))
+  pub seek_done : (left u : ℕ) → Seeking left u → m ≤ u → SoughtIn unit m r (joined of_row m) number (Err (record { row = m; left = left }))
+  seek_done left u h k = let e : u ≡ m = omega (arith, h.run.high) in rw e at (done left u h (run_done _ m r.id u h.run e))
 
   module _ (left u : ℕ) {q : UnitRow} (h : Seeking left u) (j : u < m) (e : q ≡ unit u) where
-    pub seek_stop : Walked unit m → (q.constraint ≡ r.id → ⊥) → SoughtIn unit m r (joined of_row m) number (sought.Past u left)
+    pub seek_stop : Walked unit m → (q.constraint ≡ r.id → ⊥) → SoughtIn unit m r (joined of_row m) number (Err (record { row = u; left = left }))
     seek_stop o d = done left u h (run_stop _ m r.id u o.keep h.run j (rw e at d))
 
     module _ (same : q.constraint ≡ r.id) {each k : ℕ} (f : each ≡ each_of r) (g : k ≡ cond (eqb q.account account) each 0) where
@@ -95,6 +94,6 @@ module _ (unit : ℕ → UnitRow) (m account : ℕ) (r : Constraint) (number : �
             passed = pass_length of_row number u h.passed (rw (this_row unit account r (pools_of r) u e same) (own_length account r q f g)) l;
           }
 
-      pub seek_found : {x : Line} → left < k → nth (unit_lines r (pools_of r) q) left ≡ found x → SoughtIn unit m r (joined of_row m) number (sought.Line x)
+      pub seek_found : {x : Line} → left < k → nth (unit_lines r (pools_of r) q) left ≡ found x → SoughtIn unit m r (joined of_row m) number (Ok x)
       unfolding SoughtIn
       seek_found l n = found_in of_row number u h.passed m j (rw (this_row unit account r (pools_of r) u e same) (row_found account r q f g left l n))

@@ -16,9 +16,9 @@ ghost use Rattle.lines.specs.Inner.Walks.{unit_lines_at, con_lines};
 ghost use Rattle.lookup.specs.ByNumber.{numbered_in};
 ghost use Rattle.lookup.specs.Inner.Sought.{other_lines, Rests, Bare, SoughtIn};
 
-use crate::Numbered;
 use amounts::pools;
 use lines::make;
+use lines::portion::Portion;
 use market::Mode;
 use records::rows;
 use records::rows::{Constraint, UnitRow};
@@ -33,11 +33,11 @@ pub struct Asked {
     pub number: usize,
 }
 
-// The line; or there are fewer, and then the row behind the constraint's unit rows, and what the number has beyond the last line.
+// There are fewer lines: the row behind the constraint's unit rows, and what the number has beyond the last line.
 #[derive(Clone, Copy)]
-pub enum Sought {
-    Line(Line),
-    Past(usize, usize),
+pub struct Passed {
+    pub row: usize,
+    pub left: usize,
 }
 
 // How many lines a unit row has, where each of the account's own has so many.
@@ -58,7 +58,7 @@ fn unit_line(r: Constraint, q: UnitRow, i: usize) -> Line
 }
 
 // The line of a number among those of a constraint's unit rows, from the first of them on.
-fn unit_run(units: &[u8], m: usize, r: Constraint, a: Asked) -> Sought
+fn unit_run(units: &[u8], m: usize, r: Constraint, a: Asked) -> Result<Line, Passed>
     requires m_in_bounds { m * 20 ≤ length units.now }
     requires walked { Walked (unit_row units.now) m }
     requires stands { Stands (key_of (unit_row units.now)) m r.id a.row }
@@ -67,51 +67,50 @@ fn unit_run(units: &[u8], m: usize, r: Constraint, a: Asked) -> Sought
 {
     let each = groups::lines_each(r);
     let mut left = a.number;
-    let mut u = a.row;
-    while u < m {
+    for u in a.row..m {
         let q = rows::unit_row(units, u);
         if q.constraint != r.id {
-            return Sought::Past(u, left);
+            return Err(Passed { row: u, left });
         }
         let lines = own_count(q, a.account, each);
         if left < lines {
-            return Sought::Line(unit_line(r, q, left));
+            return Ok(unit_line(r, q, left));
         }
         left -= lines;
-        u += 1;
     }
-    Sought::Past(u, left)
+    Err(Passed { row: m, left })
 }
 
 // Line i of those that a constraint has besides: the one of mode 0, or a residual's.
-fn other_line(regions: &[u8], r: Constraint, own: Totals, i: usize) -> Line
+fn other_line(regions: &[u8], r: Constraint, own: &Totals, i: usize) -> Line
     requires in_bounds { 60 ≤ length regions.now }
-    requires rests { Rests (entry_row regions.now) r own }
-    requires i_in_bounds { i < length (other_lines r (over_regions (entry_of own) r) (over_regions (entry_row regions.now) r)) }
-    ensures { nth (other_lines r (over_regions (entry_of own) r) (over_regions (entry_row regions.now) r)) i ≡ found result }
+    requires rests { Rests (entry_row regions.now) r own.now }
+    requires i_in_bounds { i < length (other_lines r (over_regions (entry_of own.now) r) (over_regions (entry_row regions.now) r)) }
+    ensures { nth (other_lines r (over_regions (entry_of own.now) r) (over_regions (entry_row regions.now) r)) i ≡ found result }
 {
-    let ace = own.ace;
-    let asoe = own.asoe;
-    let residual = own.residual;
-    let share = divisors::share_of(regions, &ace, &asoe, &residual, r);
+    let share = divisors::share_of(regions, own, r);
+    let portion = Portion {
+        own: share.own,
+        total: share.total,
+    };
     if r.mode == Mode::CONTINGENCY {
-        return make::contingency_line(r, share.own, share.total);
+        return make::contingency_line(r, portion);
     }
     let x = pools::residual_of(r, pools::pools_of(r));
-    groups::rest_line(r, x, share.own, share.total, i)
+    groups::rest_line(r, x, portion, i)
 }
 
 // The line of a number among those.
-fn others(regions: &[u8], r: Constraint, own: Totals, number: usize) -> Numbered
+fn others(regions: &[u8], r: Constraint, own: &Totals, number: usize) -> Result<Line, usize>
     requires in_bounds { 60 ≤ length regions.now }
-    requires rests { Rests (entry_row regions.now) r own }
-    ensures { result ≡ numbered_in (other_lines r (over_regions (entry_of own) r) (over_regions (entry_row regions.now) r)) number }
+    requires rests { Rests (entry_row regions.now) r own.now }
+    ensures { result ≡ numbered_in (other_lines r (over_regions (entry_of own.now) r) (over_regions (entry_row regions.now) r)) number }
 {
     let lines = groups::lines_each(r);
     if number < lines {
-        return Numbered::Line(other_line(regions, r, own, number));
+        return Ok(other_line(regions, r, own, number));
     }
-    Numbered::Past(number - lines)
+    Err(number - lines)
 }
 
 // The line of a number among all lines of one constraint.
@@ -122,7 +121,7 @@ pub fn constraint_line(
     r: Constraint,
     own: Totals,
     a: Asked,
-) -> Sought
+) -> Result<Line, Passed>
     requires in_bounds { (60 ≤ length regions.now) × (m * 20 ≤ length units.now) }
     requires walked { Walked (unit_row units.now) m }
     requires stands { Stands (key_of (unit_row units.now)) m r.id a.row }
@@ -130,11 +129,12 @@ pub fn constraint_line(
     requires bare { Bare (unit_row units.now) m r }
     ensures { SoughtIn (unit_row units.now) m r (con_lines (unit_row units.now) m a.account r (over_regions (entry_of own) r) (over_regions (entry_row regions.now) r)) a.number result }
 {
+    // A `match`, since a proof cannot name what the closures of `or_else` and `map_err` answer.
     match unit_run(units, m, r, a) {
-        Sought::Line(line) => Sought::Line(line),
-        Sought::Past(next, left) => match others(regions, r, own, left) {
-            Numbered::Line(line) => Sought::Line(line),
-            Numbered::Past(rest) => Sought::Past(next, rest),
+        Ok(line) => Ok(line),
+        Err(p) => match others(regions, r, &own, p.left) {
+            Ok(line) => Ok(line),
+            Err(left) => Err(Passed { row: p.row, left }),
         },
     }
 }

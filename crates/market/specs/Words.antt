@@ -1,16 +1,5 @@
 -- The words of the market's papers: regions, and what a restart contract's rows are marked with. Document 003, Table 1; 02, Req 05.
-use Rattle.std.specs.Prelude.{ℕ, ◌≤◌, ◌≡◌, List, [], ◌∷◌, get_or, take, length}
-use Rattle.market.specs.declared.Word.{Word}
-
--- the letters of a word
-abbrev pub letters_of : Word → List ℕ
-letters_of w = take w.count w.letters
-
--- a word has the letters xs
-pub record Has (xs : List ℕ) (w : Word) : Type 0 where
-  pub letters : letters_of w ≡ xs
-  pub long : w.count ≡ length xs
-  pub fits : w.count ≤ 12
+use Rattle.std.specs.Prelude.{ℕ, List, [], ◌∷◌, get_or}
 
 -- 01, The book: "in the order NSW1, QLD1, SA1, TAS1, VIC1"
 abbrev pub region_names : List (List ℕ)

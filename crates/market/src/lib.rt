@@ -2,10 +2,10 @@
 // Raise or lower, the energy that a cost is shared by, the region's bit and name and the mode's data are asked here and nowhere else.
 #![tactic(auto)]
 
-ghost use Rattle.std.specs.Prelude.{◌≡◌, ◌∷◌, ◌-◌, ◌^◌, ◌<◌, length};
+ghost use Rattle.std.specs.Prelude.{◌≡◌, ◌∷◌, ◌-◌, ◌^◌, ◌≤◌, ◌<◌, length};
 ghost use Rattle.market.specs.Kinds.{service_numbers, region_numbers, is_service, raises, regulates, basis_of, picked, bit_set, mode_with};
 ghost use Rattle.market.specs.Inner.Masks.{regions_in};
-ghost use Rattle.market.specs.Words.{Has, region_name, payment_type_name, restart_name};
+ghost use Rattle.market.specs.Words.{region_name, payment_type_name, restart_name};
 
 // A market frequency service, by its number.
 #[derive(Clone, Copy)]
@@ -116,13 +116,6 @@ impl Basis {
     }
 }
 
-// A word of the market's papers: the first `count` of its letters.
-#[derive(Clone, Copy)]
-pub struct Word {
-    pub letters: [u8; 12],
-    pub count: usize,
-}
-
 // A region of the market, by its number.
 #[derive(Clone, Copy)]
 pub struct Region {
@@ -161,32 +154,17 @@ impl Region {
         ]
     }
 
-    pub fn name(self) -> Word
+    // Its word in the market's papers.
+    pub fn name(self) -> &'static [u8]
         requires { self.number < 5 }
-        ensures { Has (region_name self.number) result }
+        ensures { (result.now ≡ region_name self.number) × (length result.now ≤ 12) }
     {
-        let number = self.number;
-        match number {
-            0 => Word {
-                letters: *b"NSW1\0\0\0\0\0\0\0\0",
-                count: 4,
-            },
-            1 => Word {
-                letters: *b"QLD1\0\0\0\0\0\0\0\0",
-                count: 4,
-            },
-            2 => Word {
-                letters: *b"SA1\0\0\0\0\0\0\0\0\0",
-                count: 3,
-            },
-            3 => Word {
-                letters: *b"TAS1\0\0\0\0\0\0\0\0",
-                count: 4,
-            },
-            _ => Word {
-                letters: *b"VIC1\0\0\0\0\0\0\0\0",
-                count: 4,
-            },
+        match self.number {
+            0 => b"NSW1",
+            1 => b"QLD1",
+            2 => b"SA1",
+            3 => b"TAS1",
+            _ => b"VIC1",
         }
     }
 
@@ -253,36 +231,24 @@ impl PaymentType {
         PaymentType { number }
     }
 
-    pub fn name(self) -> Word
+    // Its word in the market's papers.
+    pub fn name(self) -> &'static [u8]
         requires { self.number < 3 }
-        ensures { Has (payment_type_name self.number) result }
+        ensures { (result.now ≡ payment_type_name self.number) × (length result.now ≤ 12) }
     {
-        let number = self.number;
-        match number {
-            Self::AVAILABILITY => Word {
-                letters: *b"AVAILABILITY",
-                count: 12,
-            },
-            Self::ENABLEMENT => Word {
-                letters: *b"ENABLEMENT\0\0",
-                count: 10,
-            },
-            _ => Word {
-                letters: *b"COMPENSATION",
-                count: 12,
-            },
+        match self.number {
+            Self::AVAILABILITY => b"AVAILABILITY",
+            Self::ENABLEMENT => b"ENABLEMENT",
+            _ => b"COMPENSATION",
         }
     }
 }
 
 // The service that restart contracts are for.
-pub fn restart() -> Word
-    ensures { Has restart_name result }
+pub fn restart() -> &'static [u8]
+    ensures { (result.now ≡ restart_name) × (length result.now ≤ 12) }
 {
-    Word {
-        letters: *b"RESTART\0\0\0\0\0",
-        count: 7,
-    }
+    b"RESTART"
 }
 
 // How a constraint's cost is shared. Only a factored one has a price, a response and a usage.

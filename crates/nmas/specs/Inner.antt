@@ -1,2 +1,3 @@
 -- What contracts of inner functions and of functions between the crates speak of, and no promise to a caller outside.
 pub mod Cells
+pub mod Puts

@@ -4,20 +4,12 @@ use mathlib.Core.Path.{◌≡◌, refl}
 use mathlib.Core.Bool.{Bool, true, false, cond}
 use mathlib.Core.List.{List, [], ◌∷◌}
 use native.Mathlib.Omega.{arith}
-use native.Mathlib.Nat.{le_of_suc-le-suc, not-suc-le-zero}
 use borrow.Author.Tests.{leb-false}
 use lib.Dec.{eqb, leb}
-use lib.IntN.{pos}
 use lib.ListN.{length, get_or, length-append}
-use Rattle.numbers.specs.Sign.{signed}
 use Rattle.sections.specs.Total.{total}
 use Rattle.ground.specs.Bytes.{AreBytes}
 use Rattle.ground.specs.Inner.Each.{Each}
-use Rattle.ground.proofs.Each.{each_at}
-use Rattle.market.specs.Words.{region_names, payment_types}
-use Rattle.decimal.specs.Decimal.{signed_text}
-use Rattle.decimal.proofs.Spelling.{few_digits}
-use Rattle.decimal.proofs.Writing.{number_plain, number_short}
 use Rattle.rules.specs.Rules.{factor_of}
 use Rattle.records.specs.declared.rows.Entry.{Entry}
 use Rattle.records.specs.declared.rows.Contract.{Contract}
@@ -26,134 +18,63 @@ use Rattle.book.specs.Table.{locked_for}
 use Rattle.book.proofs.Promise.{accepted}
 use Rattle.accounts.specs.Account.{public_of}
 use Rattle.accounts.proofs.Joined.{joined_bound}
+use Rattle.accounts.specs.Rows.{joined}
+use Rattle.accounts.specs.declared.energies.OwnEnergies.{OwnEnergies}
+use Rattle.totals.specs.Inner.Totals.{entry_of}
+use Rattle.totals.specs.declared.entries.Totals.{Totals}
+use Rattle.locking.specs.Locking.{settled_by, pick}
+use Rattle.lines.specs.Inner.Walks.{totals_from}
+use Rattle.sections.proofs.Cases.{is_zero}
+use mathlib.Core.Logic.{⊎_elim}
+use Rattle.nmas.specs.Inner.Cells.{held}
+use Rattle.nmas.proofs.Wide.{row_wide}
+use Rattle.nmas_file.proofs.Regions.{none_long, region_ranges, text_one}
+use Rattle.nmas_file.proofs.Texts.{text_bound}
 use Rattle.statement.specs.Lent.{Outcome, refuses, gives}
 use Rattle.settlement.specs.Settle.{outcome}
 use Rattle.settlement.proofs.Settled.{apart}
 use Rattle.settlement.proofs.Owned.{own_there, own_there_lem}
 use Rattle.trips.proofs.Call.{passed}
-use Rattle.columns.specs.Columns.{number_form, columns, spelled, cell_text, InRange}
-use Rattle.columns.specs.declared.Form.{Form}
-use Rattle.nmas.specs.Rows.{field_of, fields_text, row_text, text_of, RowFine}
+use Rattle.nmas.specs.Rows.{fields_of, field_of, fields_text, row_text, text_of, RowFine}
 use Rattle.nmas.specs.declared.Row.{Row}
-use Rattle.nmas_file.specs.File.{head_of, region_rows, file_rows_for, instead, file_outcome}
-use Rattle.nmas_file.specs.Inner.Walks.{rows_at}
+use Rattle.nmas_file.specs.File.{head_of, row_with, region_rows, contract_rows, file_rows_for, instead, file_outcome}
+use Rattle.nmas_file.specs.Inner.Walks.{Fileable, FileableIn, rows_at}
 use Rattle.nmas_file.specs.declared.Head.{Head}
 use Rattle.nmas_file.proofs.Link.{rows_link}
 use Rattle.nmas_file.proofs.Fine.{file_rows_fine}
 
--- ---- how wide a number is
+-- ---- how long rows are
 
-plain_wide : (n x : ℕ) → x < 10 ^ suc n → length (signed_text (pos x) 0) ≤ suc n
-unfolding signed_text
-plain_wide n x h = rw (number_plain x 0 refl) (few_digits n x h)
-
-number_wide : (n d x : ℕ) → x / 10 ^ d < 10 ^ suc n → length (signed_text (pos x) d) ≤ n + 2 + d
-unfolding signed_text
-number_wide n d x h = number_short n x d h
-
-charge_wide : (n d x : ℕ) → x / 10 ^ d < 10 ^ suc n → length (signed_text (signed true x) d) ≤ n + 3 + d
-unfolding signed_text
-charge_wide n d zero h = omega (arith, number_short n 0 d h)
-charge_wide n d (suc x) h = omega (arith, number_short n (suc x) d h)
-
--- ---- how wide each column is, with the byte behind it
-
-abbrev widths : List ℕ
-widths = 9 ∷ 3 ∷ 4 ∷ 11 ∷ 8 ∷ 11 ∷ 13 ∷ 5 ∷ 9 ∷ 13 ∷ 15 ∷ 11 ∷ 11 ∷ 10 ∷ 10 ∷ 14 ∷ 14 ∷ []
-
-abbrev Wide : List Form → List ℕ → Type 0
-Wide [] ws = Unit
-Wide (f ∷ fs) [] = ⊥
-Wide (f ∷ fs) (w ∷ ws) = ((x : ℕ) → x ≤ f.most → length (spelled f x) + 1 ≤ w) × Wide fs ws
-
-wide_at : (fs : List Form) (ws : List ℕ) → Wide fs ws → (d : Form) (i : ℕ) → i < length fs → (x : ℕ) → x ≤ (get_or fs i d).most → length (spelled (get_or fs i d) x) + 1 ≤ get_or ws i 0
-wide_at [] ws h d i l = absurd (not-suc-le-zero l)
-wide_at (f ∷ fs) [] h d i l = absurd h
-wide_at (f ∷ fs) (w ∷ ws) h d zero l = h.0
-wide_at (f ∷ fs) (w ∷ ws) h d (suc i) l = wide_at fs ws h.1 d i (le_of_suc-le-suc l)
-
-type_wide : (x : ℕ) → x ≤ 2 → length (get_or payment_types x []) ≤ 12
-type_wide x h = each_at (λ w. length w ≤ 12) payment_types (omega arith, (omega arith, (omega arith, tt))) [] x (omega arith)
-
-region_wide : (x : ℕ) → x ≤ 4 → length (get_or region_names x []) ≤ 4
-region_wide x h =
-    each_at (λ w. length w ≤ 4) region_names (omega arith, (omega arith, (omega arith, (omega arith, (omega arith, tt))))) [] x (omega arith)
-
-all_wide : Wide columns widths
-unfolding spelled
-all_wide = (
-  (λ x h. omega (arith, plain_wide 7 x (omega arith))),
-  (
-    (λ x h. omega (arith, plain_wide 1 x (omega arith))),
-    (
-      (λ x h. omega (arith, plain_wide 2 x (omega arith))),
-      (
-        (λ x h. omega (arith, plain_wide 9 x (omega arith))),
-        (
-          (λ x h. omega arith),
-          (
-            (λ x h. omega (arith, plain_wide 9 x (omega arith))),
-            (
-              (λ x h. omega (arith, type_wide x h)),
-              (
-                (λ x h. omega (arith, region_wide x h)),
-                (
-                  (λ x h. omega (arith, number_wide 0 6 x (omega arith))),
-                  (
-                    (λ x h. omega (arith, number_wide 6 4 x (omega arith))),
-                    (
-                      (λ x h. omega (arith, charge_wide 7 4 x (omega arith))),
-                      (
-                        (λ x h. omega (arith, charge_wide 4 3 x (omega arith))),
-                        (
-                          (λ x h. omega (arith, charge_wide 4 3 x (omega arith))),
-                          (
-                            (λ x h. omega (arith, number_wide 4 3 x (omega arith))),
-                            (
-                              (λ x h. omega (arith, number_wide 4 3 x (omega arith))),
-                              (
-                                (λ x h. omega (arith, charge_wide 6 4 x (omega arith))),
-                                ((λ x h. omega (arith, charge_wide 6 4 x (omega arith))), tt),
-                              ),
-                            ),
-                          ),
-                        ),
-                      ),
-                    ),
-                  ),
-                ),
-              ),
-            ),
-          ),
-        ),
-      ),
-    ),
-  ),
-)
-
-cell_short : (column x : ℕ) → column < 17 → InRange column x → length (cell_text column x) ≤ get_or widths column 0
-unfolding cell_text
-cell_short column x l r = rw length-append (wide_at columns widths all_wide (number_form 0 0 0) column l x r.1)
-
-fields_short : (field : ℕ → ℕ) → ((column : ℕ) → column < 17 → InRange column (field column)) → (n : ℕ) → n ≤ 17 → length (fields_text field n) ≤ total (λ c. get_or widths c 0) n
-unfolding fields_text total
-fields_short field r zero l = omega arith
-fields_short field r (suc n) l =
-    rw length-append (omega (arith, fields_short field r n (omega arith), cell_short n (field n) (omega arith) (r n (omega arith))))
-
-widths_make : total (λ c. get_or widths c 0) 17 ≡ 171
-unfolding total
-widths_make = refl
-
--- a row has at most 171 bytes
 pub row_short : (r : Row) → RowFine r → length (row_text r) ≤ 171
 unfolding row_text
-row_short r h = rw (← widths_make) (fields_short (field_of r) h.ranges 17 (omega arith))
+row_short r h = row_wide (field_of r) h.ranges
 
 rows_short : (rs : List Row) → Each RowFine rs → length (text_of rs) ≤ length rs * 171
 unfolding text_of
 rows_short [] h = omega arith
 rows_short (r ∷ rs) h = rw length-append (omega (arith, row_short r h.0, rows_short rs h.1))
+
+-- ---- how long a contract's rows are, and those of several
+
+module _ (head : Head) (entry : ℕ → Entry) (own : Totals) (k : Contract) (h : Fileable head entry k own) where
+  region_short : (g : ℕ) → g < 5 → length (text_of (region_rows head entry (entry_of own) k g)) ≤ 171
+  region_short g l =
+      ⊎_elim (λ e. rw (none_long head entry own k g e) (omega arith))
+      (λ d. rw (text_one head entry own k g d refl) (row_wide (held (fields_of (row_with head entry (entry_of own) k g))) (region_ranges head entry own k g d refl h l)))
+      (is_zero (factor_of k.factors g))
+
+  contract_short : length (text_of (contract_rows head entry (entry_of own) k)) ≤ 855
+  contract_short = text_bound (region_rows head entry (entry_of own) k) 171 5 region_short
+
+module _ (head : Head) (current locked : ℕ → Entry) (own : OwnEnergies) (contract : ℕ → Contract) where
+  settled_short : (i : ℕ) → FileableIn head current locked own (contract i) → length (text_of (rows_at head current locked own contract i)) ≤ 855
+  unfolding rows_at
+  settled_short i h =
+      let s = settled_by (contract i) in
+      contract_short head (totals_from current locked s) (pick s own.current own.locked) (contract i) h
+
+  pub contracts_short : (n : ℕ) → ((i : ℕ) → i < n → FileableIn head current locked own (contract i)) → length (text_of (joined (rows_at head current locked own contract) n)) ≤ n * 855
+  contracts_short n h = text_bound (rows_at head current locked own contract) 855 n (λ i l. settled_short i (h i l))
 
 -- ---- how many rows there are
 

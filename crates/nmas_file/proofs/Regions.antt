@@ -1,12 +1,9 @@
 -- A contract's row in one region: none, or one. Assumes nothing.
-use Prim.Native.Nat.{ℕ, ◌+◌, ◌≤◌, ◌<◌}
-use mathlib.Core.Path.{◌≡◌, refl, sym, ap, ◌∙◌}
+use Prim.Native.Nat.{ℕ, ◌<◌}
+use mathlib.Core.Path.{◌≡◌, refl}
 use mathlib.Core.List.{List, append-nil}
-use native.Mathlib.Omega.{arith}
 use borrow.Author.Tests.{eq-eqb, ne_eqb}
 use lib.ListN.{length}
-use Rattle.ground.specs.Inner.Put.{Wrote}
-use Rattle.ground.proofs.Put.{wrote_none}
 use Rattle.rules.specs.Rules.{factor_of}
 use Rattle.records.specs.declared.rows.Entry.{Entry}
 use Rattle.records.specs.declared.rows.Contract.{Contract}
@@ -15,37 +12,34 @@ use Rattle.totals.specs.declared.entries.Totals.{Totals}
 use Rattle.columns.specs.Columns.{InRange}
 use Rattle.nmas.specs.Rows.{fields_of, fields_text, row_text, text_of}
 use Rattle.nmas.specs.Inner.Cells.{held}
+use Rattle.nmas.specs.Inner.Puts.{InTurn}
 use Rattle.nmas_file.specs.File.{row_with, region_rows}
 use Rattle.nmas_file.specs.Inner.Walks.{Fileable}
 use Rattle.nmas_file.specs.declared.Head.{Head}
 use Rattle.nmas_file.proofs.Ranges.{row_ranges}
 
 module _ (head : Head) (entry : ℕ → Entry) (own : Totals) (k : Contract) (g : ℕ) where
-  text_none : factor_of k.factors g ≡ 0 → length (text_of (region_rows head entry (entry_of own) k g)) ≡ 0
+  pub none_long : factor_of k.factors g ≡ 0 → length (text_of (region_rows head entry (entry_of own) k g)) ≡ 0
   unfolding region_rows text_of
-  text_none e = rw (eq-eqb _ _ e) refl
+  none_long e = rw (eq-eqb _ _ e) refl
 
-  pub region_nothing : factor_of k.factors g ≡ 0 → (0 ≡ length (text_of (region_rows head entry (entry_of own) k g))) × (0 ≤ 731)
-  region_nothing e = (sym (text_none e), omega arith)
-
-  pub region_none : factor_of k.factors g ≡ 0 → {l : List ℕ} {t : ℕ} → Wrote l t (text_of (region_rows head entry (entry_of own) k g)) l t
-  unfolding region_rows text_of
-  region_none e {l} {t} = rw (eq-eqb _ _ e) (wrote_none l t)
+  module _ {room : List ℕ → ℕ → List ℕ → Type 0} {puts : List ℕ → ℕ → List ℕ → List ℕ → ℕ → Type 0} (turn : InTurn room puts) where
+    pub region_none : factor_of k.factors g ≡ 0 → {l : List ℕ} {t : ℕ} → puts l t (text_of (region_rows head entry (entry_of own) k g)) l t
+    unfolding region_rows text_of
+    region_none e {l} {t} = rw (eq-eqb _ _ e) (turn.none l t)
 
   -- fields are the row's
   module _ (d : factor_of k.factors g ≡ 0 → ⊥) {fields : List ℕ} (e : fields ≡ fields_of (row_with head entry (entry_of own) k g)) where
     pub region_ranges : Fileable head entry k own → g < 5 → (column : ℕ) → column < 17 → InRange column (held fields column)
     region_ranges h l = rw e (row_ranges head entry k own h g l d)
 
-    text_one : text_of (region_rows head entry (entry_of own) k g) ≡ fields_text (held fields) 17
+    pub text_one : text_of (region_rows head entry (entry_of own) k g) ≡ fields_text (held fields) 17
     unfolding region_rows text_of row_text
     text_one = rw (ne_eqb _ _ d, append-nil, e)
 
-    pub region_long : {n : ℕ} → (n ≡ length (fields_text (held fields) 17)) × (n ≤ 731) → (n ≡ length (text_of (region_rows head entry (entry_of own) k g))) × (n ≤ 731)
-    region_long c = (c.0 ∙ ap length (sym text_one), c.1)
+    module _ {room : List ℕ → ℕ → List ℕ → Type 0} {puts : List ℕ → ℕ → List ℕ → List ℕ → ℕ → Type 0} (turn : InTurn room puts) where
+      pub region_room : {l : List ℕ} {t : ℕ} → room l t (text_of (region_rows head entry (entry_of own) k g)) → room l t (fields_text (held fields) 17)
+      region_room r = rw text_one at r
 
-    pub region_room : (t n : ℕ) → t + length (text_of (region_rows head entry (entry_of own) k g)) ≤ n → t + length (fields_text (held fields) 17) ≤ n
-    region_room t n r = rw text_one at r
-
-    pub region_out : {l b : List ℕ} {t y : ℕ} → Wrote l t (fields_text (held fields) 17) b y → Wrote l t (text_of (region_rows head entry (entry_of own) k g)) b y
-    region_out w = rw text_one w
+      pub region_put : {l b : List ℕ} {t y : ℕ} → puts l t (fields_text (held fields) 17) b y → puts l t (text_of (region_rows head entry (entry_of own) k g)) b y
+      region_put w = rw text_one w

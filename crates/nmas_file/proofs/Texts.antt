@@ -1,13 +1,15 @@
--- Rows one behind the other as a text: what a loop that measures it and one that writes it need to know. Assumes nothing.
+-- Rows one behind the other as a text: what a loop that puts one behind the other needs to know. Assumes nothing.
 use Prim.Native.Nat.{ℕ, zero, suc, ◌+◌, ◌*◌, ◌≤◌, ◌<◌}
 use mathlib.Core.Path.{◌≡◌, refl, sym, ap, ◌∙◌}
 use mathlib.Core.List.{List, [], ◌∷◌, ◌++◌, append_assoc}
 use native.Mathlib.Omega.{arith}
 use lib.ListN.{length, length-append}
-use Rattle.ground.specs.Inner.Put.{Wrote}
-use Rattle.ground.proofs.Put.{wrote_none, wrote_more, wrote_length}
+use native.Mathlib.Numerals.{add-one}
+use mathlib.Core.Logic.{⊎_elim}
+use Rattle.sections.proofs.Search.{lt_or_ge}
+use Rattle.nmas.specs.Inner.Puts.{InTurn}
 use Rattle.accounts.specs.Rows.{joined}
-use Rattle.accounts.proofs.Joined.{joined_none, joined_more, joined_all, joined_room}
+use Rattle.accounts.proofs.Joined.{joined_none, joined_more, joined_all}
 use Rattle.nmas.specs.Rows.{text_of}
 use Rattle.nmas.specs.declared.Row.{Row}
 
@@ -26,50 +28,33 @@ module _ (f : ℕ → List Row) where
   pub text_more : (i : ℕ) → text_of (joined f (i + 1)) ≡ text_of (joined f i) ++ text_of (f i)
   text_more i = ap text_of (sym (joined_more f i)) ∙ text_append (joined f i) (f i)
 
-  -- the texts before and at i are part of the whole
-  pub text_room : (i n : ℕ) → i < n → length (text_of (joined f i)) + length (text_of (f i)) ≤ length (text_of (joined f n))
-  text_room i n l = rw (text_joined i, text_joined n) (joined_room (λ i. text_of (f i)) i n l)
+  -- ---- put, written or measured: the first i of n stand in b from k to m
 
-  -- ---- measured: the first i of n make `sum` bytes, each at most b
+  module _ {room : List ℕ → ℕ → List ℕ → Type 0} {puts : List ℕ → ℕ → List ℕ → List ℕ → ℕ → Type 0} (turn : InTurn room puts) where
+    pub rows_none : (l : List ℕ) (k : ℕ) → puts l k (text_of (joined f 0)) l k
+    unfolding text_of
+    rows_none l k = rw (joined_none f) (turn.none l k)
 
-  pub record Counted (b n i sum : ℕ) : Type 0 where
-    pub within : i ≤ n
-    pub long : sum ≡ length (text_of (joined f i))
-    pub small : sum ≤ i * b
+    module _ (i : ℕ) {l : List ℕ} {k : ℕ} {b : List ℕ} {m : ℕ} (c : puts l k (text_of (joined f i)) b m) where
+      pub rows_room : (n : ℕ) → i < n → room l k (text_of (joined f n)) → room b m (text_of (f i))
+      rows_room zero h r = absurd (omega arith)
+      rows_room (suc n) h r =
+          let one : room l k (text_of (joined f n) ++ text_of (f n)) = rw (← add-one, text_more n) at r in
+          ⊎_elim (λ p. rows_room n p (turn.first _ _ _ _ one))
+          (λ p. let e : n ≡ i = omega arith in turn.rest _ _ _ _ _ _ (rw e at one) c)
+          (lt_or_ge i n)
 
-  pub counted_none : (b n : ℕ) → Counted b n 0 0
+      pub rows_more : {d : List ℕ} {e : ℕ} → puts b m (text_of (f i)) d e → puts l k (text_of (joined f (i + 1))) d e
+      rows_more w = rw (text_more i) (turn.more _ _ _ _ _ _ _ _ c w)
+
+      pub rows_all : {n : ℕ} → i ≤ n → n ≤ i → puts l k (text_of (joined f n)) b m
+      rows_all {n} g h = rw (← joined_all f i n g h) c
+
+  -- how long they are together, where none is longer than b
+  pub text_bound : (b n : ℕ) → ((i : ℕ) → i < n → length (text_of (f i)) ≤ b) → length (text_of (joined f n)) ≤ n * b
   unfolding text_of
-  counted_none b n = record { within = omega arith; long = rw (joined_none f) refl; small = omega arith }
-
-  more : (i b : ℕ) → (i + 1) * b ≡ i * b + b
-  more i b = omega arith
-
-  pub counted_more : {b n i sum x : ℕ} → Counted b n i sum → i < n → (x ≡ length (text_of (f i))) × (x ≤ b) → Counted b n (i + 1) (sum + x)
-  counted_more {b} {n} {i} {sum} {x} c h e =
-      record { within = omega arith; long = rw (text_more i, length-append, ← c.long, ← e.0); small = rw (more i b) (omega (arith, c.small, e.1)) }
-
-  pub counted_all : {b n i sum : ℕ} → Counted b n i sum → n ≤ i → sum ≡ length (text_of (joined f n))
-  counted_all {b} {n} {i} c h = c.long ∙ ap (λ (xs : List Row). length (text_of xs)) (joined_all f i n c.within h)
-
-  -- ---- written: the first i of n stand in b from k to m
-
-  pub record Filled (n : ℕ) (l : List ℕ) (k i : ℕ) (b : List ℕ) (m : ℕ) : Type 0 where
-    pub within : i ≤ n
-    pub wrote : Wrote l k (text_of (joined f i)) b m
-
-  pub filled_none : (n : ℕ) (l : List ℕ) (k : ℕ) → Filled n l k 0 l k
-  unfolding text_of
-  filled_none n l k = record { within = omega arith; wrote = rw (joined_none f) (wrote_none l k) }
-
-  module _ {n : ℕ} {l : List ℕ} {k i : ℕ} {b : List ℕ} {m : ℕ} (c : Filled n l k i b m) where
-    pub filled_room : i < n → k + length (text_of (joined f n)) ≤ length l → m + length (text_of (f i)) ≤ length b
-    filled_room h r = omega (arith, c.wrote.next, wrote_length c.wrote, text_room i n h)
-
-    pub filled_more : i < n → {d : List ℕ} {e : ℕ} → Wrote b m (text_of (f i)) d e → Filled n l k (i + 1) d e
-    filled_more h w = record { within = omega arith; wrote = rw (text_more i) (wrote_more c.wrote w) }
-
-    pub filled_all : n ≤ i → Wrote l k (text_of (joined f n)) b m
-    filled_all h = rw (← joined_all f i n c.within h) c.wrote
-
-    pub filled_length : length b ≡ length l
-    filled_length = wrote_length c.wrote
+  text_bound b zero h = rw (joined_none f) (omega arith)
+  text_bound b (suc n) h =
+      let one : length (text_of (joined f (suc n))) ≡ length (text_of (joined f n)) + length (text_of (f n)) = rw (← add-one, text_more n, length-append) refl in
+      let product : suc n * b ≡ n * b + b = omega arith in
+      rw product (omega (arith, one, text_bound b n (λ i l. h i (omega arith)), h n (omega arith)))

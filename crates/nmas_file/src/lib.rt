@@ -3,36 +3,32 @@
 #![tactic(auto)]
 
 ghost use Rattle.std.specs.Prelude.{◌≡◌, ℕ, ◌+◌, ◌*◌, ◌≤◌, ◌<◌, length, nat_abs};
-ghost use Rattle.ground.specs.Bytes.{part_from};
-ghost use Rattle.ground.specs.Inner.Put.{Wrote};
+ghost use Rattle.ground.specs.Bytes.{AreBytes, part_from};
 ghost use Rattle.records.specs.Rows.{entry_row, contract_row};
 ghost use Rattle.rules.specs.Rules.{factor_of};
 ghost use Rattle.totals.specs.Inner.Totals.{entry_of};
 ghost use Rattle.book.specs.Header.{header_of};
-ghost use Rattle.book.specs.Book.{book_in, book_of};
-ghost use Rattle.book.specs.Inner.Facts.{Laid};
+ghost use Rattle.book.specs.Laid.{book_at};
 ghost use Rattle.book.specs.Inner.Accepted.{Promise};
 ghost use Rattle.accounts.specs.Rows.{joined};
-ghost use Rattle.amounts.specs.Inner.Bounds.{SmallHalves};
 ghost use Rattle.statement.specs.Lent.{Lent, gives};
-ghost use Rattle.lines.specs.Lines.{ace_line, asoe_line};
-ghost use Rattle.lines.specs.Inner.Shared.{Shared};
 ghost use Rattle.nmas.specs.Rows.{fields_of, text_of};
 ghost use Rattle.nmas_file.specs.File.{row_with, region_rows, contract_rows, file_in, file_outcome};
 ghost use Rattle.nmas_file.specs.Inner.Walks.{Fileable, FileableIn, settled_rows, rows_at, book_rows};
 
 use accounts::energies::OwnEnergies;
 use amounts::pools;
-use amounts::pools::Halves;
-use book::header;
 use book::header::Header;
+use book::laid::LaidBook;
 use lines::make;
+use lines::portion::Portion;
 use locking::Source;
+use nmas::{Measured, Puts, Written};
 use numbers::sign;
 use records::rows;
 use records::rows::Contract;
-use sections::Verdict;
-use statement::Written;
+use sections::Refusal;
+use statement::Line;
 use totals::entries::Totals;
 
 // What all rows of a file have in common.
@@ -54,45 +50,38 @@ fn head_of(h: Header, account: u32, payment_type: u64) -> Head
         run: h.run as u64,
         interval: h.interval as u64,
         account: account as u64,
-        payment_type: payment_type,
+        payment_type,
     }
 }
 
-// The size of a contract's line by ACE in region g, and of the one by ASOE.
-fn ace_size(id: u32, g: usize, x: Halves, own: u64, total: u64) -> u64
-    requires g_bound { (g < 5) × SmallHalves x }
-    requires shared { Shared own total }
-    ensures { result ≡ nat_abs (ace_line id g x own total).amount }
+// The size of what a line gives or takes.
+fn size_of(line: Line) -> u64
+    ensures { result ≡ nat_abs line.amount }
 {
-    let line = make::ace_line(id, g, x, own, total);
-    sign::size(line.amount)
-}
-
-fn asoe_size(id: u32, g: usize, x: Halves, own: u64, total: u64) -> u64
-    requires g_bound { (g < 5) × SmallHalves x }
-    requires shared { Shared own total }
-    ensures { result ≡ nat_abs (asoe_line id g x own total).amount }
-{
-    let line = make::asoe_line(id, g, x, own, total);
     sign::size(line.amount)
 }
 
 // The fields of a contract's row in region g, where it benefits, in the order of the columns.
-fn fields_of(head: Head, regions: &[u8], k: Contract, g: usize, own: Totals) -> [u64; 17]
+fn fields_of(head: Head, regions: &[u8], k: Contract, g: usize, own: &Totals) -> [u64; 17]
     requires in_bounds { (60 ≤ length regions.now) × ((g < 5) × (factor_of k.factors g ≡ 0 → ⊥)) }
-    requires fileable { Fileable head (entry_row regions.now) k own }
-    ensures { result ≡ fields_of (row_with head (entry_row regions.now) (entry_of own) k g) }
+    requires fileable { Fileable head (entry_row regions.now) k own.now }
+    ensures { result ≡ fields_of (row_with head (entry_row regions.now) (entry_of own.now) k g) }
 {
-    let factors = k.factors;
-    let ace = own.ace;
-    let asoe = own.asoe;
-    let factor = factors[g];
-    let own_ace = ace[g];
-    let own_asoe = asoe[g];
+    let factor = k.factors[g];
+    let own_ace = own.ace[g];
+    let own_asoe = own.asoe[g];
     let e = rows::entry_row(regions, g);
     let x = pools::halves_of(k.payment, factor);
-    let by_ace = ace_size(k.id, g, x, own_ace, e.ace as u64);
-    let by_asoe = asoe_size(k.id, g, x, own_asoe, e.asoe as u64);
+    let consumed = Portion {
+        own: own_ace,
+        total: e.ace as u64,
+    };
+    let sent = Portion {
+        own: own_asoe,
+        total: e.asoe as u64,
+    };
+    let by_ace = size_of(make::ace_line(k.id, g, x, consumed));
+    let by_asoe = size_of(make::asoe_line(k.id, g, x, sent));
     [
         head.date,
         head.run,
@@ -114,162 +103,88 @@ fn fields_of(head: Head, regions: &[u8], k: Contract, g: usize, own: Totals) -> 
     ]
 }
 
-// How many bytes a contract's row in region g has: none, where it does not benefit.
-fn region_length(head: Head, regions: &[u8], k: Contract, g: usize, own: Totals) -> usize
-    requires in_bounds { (60 ≤ length regions.now) × (g < 5) }
-    requires fileable { Fileable head (entry_row regions.now) k own }
-    ensures { (result ≡ length (text_of (region_rows head (entry_row regions.now) (entry_of own) k g))) × (result ≤ 731) }
-{
-    let factors = k.factors;
-    if factors[g] == 0 {
-        return 0;
-    }
-    let fields = fields_of(head, regions, k, g, own);
-    nmas::row_length(&fields)
-}
-
-// That row, written; the answer is where it ends.
-fn put_region(
+// A contract's row in region g, none where it does not benefit, written or measured; the answer is where it ends.
+fn put_region<P: Puts>(
     text: &mut [u8],
     place: usize,
     head: Head,
     regions: &[u8],
     k: Contract,
     g: usize,
-    own: Totals,
+    own: &Totals,
 ) -> usize
     requires in_bounds { (60 ≤ length regions.now) × (g < 5) }
-    requires fileable { Fileable head (entry_row regions.now) k own }
-    requires g_in_bounds { place + length (text_of (region_rows head (entry_row regions.now) (entry_of own) k g)) ≤ length text.old }
-    ensures { Wrote text.old place (text_of (region_rows head (entry_row regions.now) (entry_of own) k g)) text.new result }
+    requires fileable { Fileable head (entry_row regions.now) k own.now }
+    requires g_in_bounds { P.room text.old place (text_of (region_rows head (entry_row regions.now) (entry_of own.now) k g)) }
+    ensures { P.puts text.old place (text_of (region_rows head (entry_row regions.now) (entry_of own.now) k g)) text.new result }
 {
-    let factors = k.factors;
-    if factors[g] == 0 {
+    if k.factors[g] == 0 {
         return place;
     }
     let fields = fields_of(head, regions, k, g, own);
-    nmas::put_row(text, place, &fields)
+    nmas::put_row::<P>(text, place, &fields)
 }
 
-// How many bytes a contract's rows have.
-fn contract_length(head: Head, regions: &[u8], k: Contract, own: Totals) -> usize
-    requires in_bounds { 60 ≤ length regions.now }
-    requires fileable { Fileable head (entry_row regions.now) k own }
-    ensures { (result ≡ length (text_of (contract_rows head (entry_row regions.now) (entry_of own) k))) × (result ≤ 3_655) }
-{
-    let mut n = 0;
-    let mut g = 0;
-    while g < 5 {
-        n += region_length(head, regions, k, g, own);
-        g += 1;
-    }
-    n
-}
-
-// Those rows, written.
-fn put_contract(
+// A contract's rows.
+fn put_contract<P: Puts>(
     text: &mut [u8],
     place: usize,
     head: Head,
     regions: &[u8],
     k: Contract,
-    own: Totals,
+    own: &Totals,
 ) -> usize
     requires in_bounds { 60 ≤ length regions.now }
-    requires fileable { Fileable head (entry_row regions.now) k own }
-    requires k_in_bounds { place + length (text_of (contract_rows head (entry_row regions.now) (entry_of own) k)) ≤ length text.old }
-    ensures { Wrote text.old place (text_of (contract_rows head (entry_row regions.now) (entry_of own) k)) text.new result }
+    requires fileable { Fileable head (entry_row regions.now) k own.now }
+    requires k_in_bounds { P.room text.old place (text_of (contract_rows head (entry_row regions.now) (entry_of own.now) k)) }
+    ensures { P.puts text.old place (text_of (contract_rows head (entry_row regions.now) (entry_of own.now) k)) text.new result }
 {
     let mut end = place;
-    let mut g = 0;
-    while g < 5 {
-        end = put_region(text, end, head, regions, k, g, own);
-        g += 1;
+    for g in 0..5 {
+        end = put_region::<P>(text, end, head, regions, k, g, own);
     }
     end
 }
 
-// How many bytes a contract's rows have, by the energies of the book that settles it.
-fn settled_length<'a>(
-    head: Head,
-    book: &'a [u8],
-    locked: &'a [u8],
-    k: Contract,
-    own: OwnEnergies,
-) -> usize
-    requires in_bounds { (84 ≤ length book.now) × (84 ≤ length locked.now) }
-    requires fileable_in { FileableIn head (entry_row (part_from 24 book.now)) (entry_row (part_from 24 locked.now)) own k }
-    ensures { (result ≡ length (text_of (settled_rows head (entry_row (part_from 24 book.now)) (entry_row (part_from 24 locked.now)) own k))) × (result ≤ 3_655) }
-{
-    let source = Source::of(k.kind);
-    let regions = locking::energies_of(source, book, locked);
-    contract_length(head, regions, k, own.by(source))
-}
-
-// Those rows, written.
-fn put_settled<'a>(
+// A contract's rows, by the energies of the book that settles it.
+fn put_settled<'a, P: Puts>(
     text: &mut [u8],
     place: usize,
     head: Head,
     book: &'a [u8],
     locked: &'a [u8],
     k: Contract,
-    own: OwnEnergies,
+    own: &OwnEnergies,
 ) -> usize
     requires in_bounds { (84 ≤ length book.now) × (84 ≤ length locked.now) }
-    requires fileable_in { FileableIn head (entry_row (part_from 24 book.now)) (entry_row (part_from 24 locked.now)) own k }
-    requires k_in_bounds { place + length (text_of (settled_rows head (entry_row (part_from 24 book.now)) (entry_row (part_from 24 locked.now)) own k)) ≤ length text.old }
-    ensures { Wrote text.old place (text_of (settled_rows head (entry_row (part_from 24 book.now)) (entry_row (part_from 24 locked.now)) own k)) text.new result }
+    requires fileable_in { FileableIn head (entry_row (part_from 24 book.now)) (entry_row (part_from 24 locked.now)) own.now k }
+    requires k_in_bounds { P.room text.old place (text_of (settled_rows head (entry_row (part_from 24 book.now)) (entry_row (part_from 24 locked.now)) own.now k)) }
+    ensures { P.puts text.old place (text_of (settled_rows head (entry_row (part_from 24 book.now)) (entry_row (part_from 24 locked.now)) own.now k)) text.new result }
 {
     let source = Source::of(k.kind);
     let regions = locking::energies_of(source, book, locked);
-    put_contract(text, place, head, regions, k, own.by(source))
+    put_contract::<P>(text, place, head, regions, k, own.by(source))
 }
 
-// How many bytes the rows of the n contracts have.
-fn rows_length<'a>(
-    head: Head,
-    book: &'a [u8],
-    locked: &'a [u8],
-    contracts: &[u8],
-    n: usize,
-    own: OwnEnergies,
-) -> usize
-    requires in_bounds { (84 ≤ length book.now) × ((84 ≤ length locked.now) × ((n ≤ 16) × (n * 36 ≤ length contracts.now))) }
-    requires by_index { (i : ℕ) → i < n → FileableIn head (entry_row (part_from 24 book.now)) (entry_row (part_from 24 locked.now)) own (contract_row contracts.now i) }
-    ensures { result ≡ length (text_of (joined (rows_at head (entry_row (part_from 24 book.now)) (entry_row (part_from 24 locked.now)) own (contract_row contracts.now)) n)) }
-{
-    let mut sum = 0;
-    let mut i = 0;
-    while i < n {
-        let k = rows::contract_row(contracts, i);
-        sum += settled_length(head, book, locked, k, own);
-        i += 1;
-    }
-    sum
-}
-
-// The rows of the n contracts, written from the first byte on.
-fn put_rows<'a>(
+// The rows of the n contracts, from the first byte on.
+fn put_rows<'a, P: Puts>(
     text: &mut [u8],
     head: Head,
     book: &'a [u8],
     locked: &'a [u8],
     contracts: &[u8],
     n: usize,
-    own: OwnEnergies,
+    own: &OwnEnergies,
 ) -> usize
     requires in_bounds { (84 ≤ length book.now) × ((84 ≤ length locked.now) × (n * 36 ≤ length contracts.now)) }
-    requires by_index { (i : ℕ) → i < n → FileableIn head (entry_row (part_from 24 book.now)) (entry_row (part_from 24 locked.now)) own (contract_row contracts.now i) }
-    requires n_in_bounds { length (text_of (joined (rows_at head (entry_row (part_from 24 book.now)) (entry_row (part_from 24 locked.now)) own (contract_row contracts.now)) n)) ≤ length text.old }
-    ensures { Wrote text.old 0 (text_of (joined (rows_at head (entry_row (part_from 24 book.now)) (entry_row (part_from 24 locked.now)) own (contract_row contracts.now)) n)) text.new result }
+    requires by_index { (i : ℕ) → i < n → FileableIn head (entry_row (part_from 24 book.now)) (entry_row (part_from 24 locked.now)) own.now (contract_row contracts.now i) }
+    requires n_in_bounds { P.room text.old 0 (text_of (joined (rows_at head (entry_row (part_from 24 book.now)) (entry_row (part_from 24 locked.now)) own.now (contract_row contracts.now)) n)) }
+    ensures { P.puts text.old 0 (text_of (joined (rows_at head (entry_row (part_from 24 book.now)) (entry_row (part_from 24 locked.now)) own.now (contract_row contracts.now)) n)) text.new result }
 {
     let mut end = 0;
-    let mut i = 0;
-    while i < n {
+    for i in 0..n {
         let k = rows::contract_row(contracts, i);
-        end = put_settled(text, end, head, book, locked, k, own);
-        i += 1;
+        end = put_settled::<P>(text, end, head, book, locked, k, own);
     }
     end
 }
@@ -277,23 +192,21 @@ fn put_rows<'a>(
 // The text of an accepted book: 13, by its length, before the first byte is written.
 fn put_file<'a>(
     head: Head,
-    book: &'a [u8],
-    h: Header,
-    locked: &'a [u8],
-    own: OwnEnergies,
+    book: &LaidBook<'a>,
+    second: &LaidBook<'a>,
+    own: &OwnEnergies,
     buffer: &mut [u8],
-) -> Written
-    requires laid { Laid book.now h × (84 ≤ length locked.now) }
-    requires by_index { (i : ℕ) → i < h.contracts → FileableIn head (book_in book.now h).entry (book_of locked.now).entry own ((book_in book.now h).contract i) }
-    ensures { Lent (gives (text_of (book_rows head (book_in book.now h) (book_of locked.now) own))) buffer.old result buffer.new }
+) -> Result<usize, Refusal>
+    requires { (i : ℕ) → i < book.now.header.contracts → FileableIn head (book_at book.now).entry (book_at second.now).entry own.now ((book_at book.now).contract i) }
+    ensures { Lent (gives (text_of (book_rows head (book_at book.now) (book_at second.now) own.now))) buffer.old result buffer.new }
 {
-    let paid = h.contracts_at();
-    let contracts = &book[paid..];
-    let n = h.contracts as usize;
-    if buffer.len() < rows_length(head, book, locked, contracts, n, own) {
-        return Written::Refused(13, 0);
-    }
-    Written::Length(put_rows(buffer, head, book, locked, contracts, n, own))
+    let b = book.bytes;
+    let s = second.bytes;
+    let contracts = book.contracts();
+    let n = book.header.contracts as usize;
+    let long = put_rows::<Measured>(&mut [], head, b, s, contracts, n, own);
+    sections::unless(long <= buffer.len(), 13)?;
+    Ok(put_rows::<Written>(buffer, head, b, s, contracts, n, own))
 }
 
 // The file of an accepted book: what its statement is refused for, then 13. The second book is the first where no contract is a test payment, and
@@ -301,36 +214,23 @@ fn put_file<'a>(
 // Not inlined, so that the checks run before there is room for a row's fields on the stack.
 #[inline(never)]
 fn settled_file<'a>(
-    book: &'a [u8],
-    h: Header,
-    locked: &'a [u8],
+    book: &LaidBook<'a>,
+    second: &LaidBook<'a>,
     account: u32,
     payment_type: u64,
     buffer: &mut [u8],
-) -> Written
-    requires laid { (Laid book.now h × (h ≡ header_of book.now)) × Laid locked.now (header_of locked.now) }
-    requires promise { Promise (book_in book.now h) (book_of locked.now) × (payment_type ≤ 2) }
-    ensures { Lent (file_in (book_in book.now h) (book_of locked.now) account payment_type) buffer.old result buffer.new }
+) -> Result<usize, Refusal>
+    requires headed { book.now.header ≡ header_of book.now.bytes.now }
+    requires are_bytes { AreBytes book.now.bytes.now }
+    requires promise { Promise (book_at book.now) (book_at second.now) × (payment_type ≤ 2) }
+    ensures { Lent (file_in (book_at book.now) (book_at second.now) account payment_type) buffer.old result buffer.new }
 {
-    let here = settlement::held_by(book, h, account);
-    if let Written::Refused(number, place) = settlement::sized(book, h, here, locked, account) {
-        return Written::Refused(number, place);
-    }
-    let there = settlement::held_by(locked, header::header_of(locked), account);
-    let current = here.own;
-    let before = there.own;
-    let own = OwnEnergies {
-        current,
-        locked: before,
-    };
-    put_file(
-        head_of(h, account, payment_type),
-        book,
-        h,
-        locked,
-        own,
-        buffer,
-    )
+    let mut own = OwnEnergies::NONE;
+    let held = settlement::held_by(book, account, &mut own.current);
+    settlement::sized(book, held, second, account)?;
+    settlement::held_by(second, account, &mut own.locked);
+    let head = head_of(book.header, account, payment_type);
+    put_file(head, book, second, &own, buffer)
 }
 
 // The file of any account from any bytes, for one of the three payment types, into any buffer.
@@ -340,16 +240,10 @@ pub fn file<'a>(
     account: u32,
     payment_type: u64,
     buffer: &mut [u8],
-) -> Written
+) -> Result<usize, Refusal>
     ensures { Lent (file_outcome book.now locked.now account payment_type) buffer.old result buffer.new }
 {
-    if payment_type > 2 {
-        return Written::Refused(15, 0);
-    }
-    if let Verdict::Refused(number, place) = verdict::check(book, locked) {
-        return Written::Refused(number, place);
-    }
-    let h = header::header_of(book);
-    let second = verdict::settles_tests(book, h, locked);
-    settled_file(book, h, second, account, payment_type, buffer)
+    sections::unless(payment_type <= 2, 15)?;
+    let both = verdict::accepted(book, locked)?;
+    settled_file(&both.book, &both.second, account, payment_type, buffer)
 }

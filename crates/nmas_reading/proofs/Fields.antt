@@ -1,7 +1,6 @@
 -- Fields where they stand in a text, one behind the other: a field more, fewer of them, and that a text has one reading. Assumes nothing.
 use Prim.Native.Nat.{ℕ, zero, suc, ◌+◌, ◌≤◌, ◌<◌}
 use mathlib.Core.Path.{◌≡◌, refl, sym, ap, ap₂, ◌∙◌}
-use mathlib.Core.Bool.{Bool, true, false, true≢false}
 use mathlib.Core.Logic.{⊎_elim}
 use mathlib.Core.List.{List, ◌++◌}
 use native.Mathlib.Omega.{arith}
@@ -9,7 +8,7 @@ use native.Mathlib.Numerals.{add-one}
 use lib.ListN.{length, set, length-append, length-set}
 use lib.Seq.{get_or-set_same, get_or-set_other}
 use Rattle.sections.proofs.Search.{lt_or_ge}
-use Rattle.decimal.specs.Standing.{Decides}
+use Rattle.std.specs.Prelude.{Option, None, Some}
 use Rattle.decimal.proofs.Standing.{stands_none, stands_two, stands_first, stands_rest}
 use Rattle.columns.specs.Columns.{cell_text}
 use Rattle.columns_reading.specs.Inner.Taking.{CellAt}
@@ -18,7 +17,6 @@ use Rattle.nmas.specs.Rows.{fields_text}
 use Rattle.nmas.specs.Inner.Cells.{held}
 use Rattle.nmas.proofs.Fields.{one_more}
 use Rattle.nmas_reading.specs.Inner.Taking.{FieldsAt, FieldsFound, Going, Goes}
-use Rattle.nmas_reading.specs.declared.Found.{Found}
 
 -- texts of equal fields are equal
 pub same_text : (f g : ℕ → ℕ) (n : ℕ) → ((i : ℕ) → i < n → f i ≡ g i) → fields_text f n ≡ fields_text g n
@@ -80,34 +78,43 @@ module _ {s : List ℕ} {k : ℕ} where
 -- ---- column after column
 
 module _ {s : List ℕ} {k : ℕ} where
-  pub going_start : {cells : List ℕ} → length cells ≡ 17 → Going s k cells 0 true k
-  going_start {cells} l = record { long = l; found = λ o. fields_none (held cells); none = λ o. absurd (true≢false o) }
+  going_start : {cells : List ℕ} → length cells ≡ 17 → Going s k cells 0 (Some k)
+  going_start {cells} l = record { long = l; told = fields_none (held cells) }
 
-  pub going_all : {cells : List ℕ} {g : Bool} {e : ℕ} → Going s k cells 17 g e → FieldsFound s k cells g e
-  going_all c = record { found = c.found; none = c.none }
+  going_stop : {cells : List ℕ} {n m : ℕ} → Going s k cells n None → Going s k cells m None
+  going_stop c = record { long = c.long; told = c.told }
 
-  going_stop : {cells : List ℕ} {n e : ℕ} {g : Bool} → Going s k cells n g e → g ≡ false → Going s k cells (n + 1) g e
-  going_stop c h = record { long = c.long; found = λ o. absurd (true≢false (sym o ∙ h)); none = c.none }
+  module _ {cells : List ℕ} {n m : ℕ} (p : Going s k cells n (Some m)) (h : n < 17) where
+    going_none : ((v e : ℕ) → CellAt s m n v e → ⊥) → Going s k cells (n + 1) None
+    going_none c =
+        record {
+          long = p.long;
+          told = λ field d u.
+              let a = fields_less (fields_first (n + 1) 17 (omega arith) u) in
+              let r = (fields_once n (omega arith) p.told a.0).1 in
+              c (field n) _ (rw (← r) at a.1);
+        }
 
-  going_more : {cells cells' : List ℕ} {n m v e : ℕ} {g t : Bool} → Going s k cells n g m → g ≡ true → n < 17 → Decides (CellAt s m n) t v e → cells' ≡ set cells n v → Going s k cells' (n + 1) t e
-  going_more {cells} {cells'} {n} {m} {v} {e} {g} {t} p q h c o =
-      let same : held cells' n ≡ v = rw o (get_or-set_same cells n v 0 (omega (arith, p.long))) in
-      let before : FieldsAt s k (held cells') n m = same_fields (λ i b. rw o (sym (get_or-set_other cells n i v 0 (λ z. omega arith)))) (p.found q) in
-      record {
-        long = ap length o ∙ length-set cells n v ∙ p.long;
-        found = λ i. fields_more before (rw same (c.found i));
-        none = λ i field d u.
-            let a = fields_less (fields_first (n + 1) 17 (omega arith) u) in
-            let r = (fields_once n (omega arith) (p.found q) a.0).1 in
-            c.none i (field n) _ (rw (← r) at a.1);
-      }
+    going_more : {cells' : List ℕ} {v e : ℕ} → CellAt s m n v e → cells' ≡ set cells n v → Going s k cells' (n + 1) (Some e)
+    going_more {cells'} {v} {e} c o =
+        let same : held cells' n ≡ v = rw o (get_or-set_same cells n v 0 (omega (arith, p.long))) in
+        let before : FieldsAt s k (held cells') n m = same_fields (λ i b. rw o (sym (get_or-set_other cells n i v 0 (λ z. omega arith)))) p.told in
+        record { long = ap length o ∙ length-set cells n v ∙ p.long; told = fields_more before (rw same c) }
 
 module _ {s : List ℕ} where
-  pub goes_stop : {n : ℕ} {cells : List ℕ} {end : Found} → end.good ≡ false → Goes s n (n + 1) cells cells end end
-  goes_stop h = record { goes = λ k c. going_stop c h }
+  pub goes_none : {n m : ℕ} {cells : List ℕ} → n < 17 → ((v e : ℕ) → CellAt s m n v e → ⊥) → Goes s n (n + 1) cells cells m None
+  goes_none l c = record { goes = λ k p. going_none p l c }
 
-  pub goes_more : {n v : ℕ} {cells cells' : List ℕ} {end r : Found} → end.good ≡ true → n < 17 → Decides (CellAt s end.next n) r.good v r.next → cells' ≡ set cells n v → Goes s n (n + 1) cells cells' end r
-  goes_more h l c o = record { goes = λ k p. going_more p h l c o }
+  pub goes_more : {n m v e : ℕ} {cells cells' : List ℕ} → n < 17 → CellAt s m n v e → cells' ≡ set cells n v → Goes s n (n + 1) cells cells' m (Some e)
+  goes_more l c o = record { goes = λ k p. going_more p l c o }
 
-  pub goes_on : {a b c : ℕ} {x y z : List ℕ} {p q r : Found} → Goes s a b x y p q → Goes s b c y z q r → Goes s a c x z p r
-  goes_on f g = record { goes = λ k c. g.goes k (f.goes k c) }
+  -- where one is not there, no call goes on
+  pub goes_stop : {a b c m : ℕ} {x y : List ℕ} → Goes s a b x y m None → Goes s a c x y m None
+  goes_stop f = record { goes = λ k p. going_stop (f.goes k p) }
+
+  pub goes_on : {a b c m e : ℕ} {x y z : List ℕ} {r : Option ℕ} → Goes s a b x y m (Some e) → Goes s b c y z e r → Goes s a c x z m r
+  goes_on f g = record { goes = λ k p. g.goes k (f.goes k p) }
+
+  -- all seventeen, from no field on
+  pub fields_all : {k : ℕ} {x y : List ℕ} {r : Option ℕ} → length x ≡ 17 → Goes s 0 17 x y k r → (length y ≡ 17) × FieldsFound s k y r
+  fields_all {k} l f = let last = f.goes k (going_start l) in (last.long, last.told)

@@ -1,15 +1,16 @@
 -- The amounts and energies of a row that was read are small: its fields are in their ranges. Assumes nothing.
-use Prim.Native.Nat.{ℕ, zero, suc, ◌+◌, ◌^◌, ◌<◌}
-use mathlib.Core.Path.{◌≡◌, subst, sym}
+use Prim.Native.Nat.{ℕ, zero, suc}
+use mathlib.Core.Path.{subst, sym}
 use mathlib.Core.List.{List, [], ◌∷◌}
 use native.Mathlib.Omega.{arith}
-use Rattle.ground.specs.Nth.{Nth, found, past, nth}
+use Rattle.ground.specs.Nth.{nth}
 use Rattle.ground.specs.Inner.Each.{Each}
 use Rattle.nmas.specs.Rows.{RowFine}
 use Rattle.nmas.specs.declared.Row.{Row}
 use Rattle.nmas_reading.specs.Reading.{TextRead, all, part, row_read, numbered_row, RowOf}
 use Rattle.nmas_reading.specs.Inner.Sized.{Sized, RowSized}
-use Rattle.nmas_reading.specs.declared.RowRead.{RowRead}
+use Rattle.std.specs.Prelude.{Result}
+use Rattle.sections.specs.declared.Refusal.{Refusal}
 
 sized : (r : Row) → RowFine r → Sized r
 sized r f =
@@ -35,5 +36,5 @@ unfolding row_read RowSized
 read_sized (all rs t) index = numbered_sized rs t.fine index
 read_sized (part rs t) index = tt
 
-pub row_sized : {s : List ℕ} {index : ℕ} {r : RowRead} → RowOf s index r → RowSized r
+pub row_sized : {s : List ℕ} {index : ℕ} {r : Result Row Refusal} → RowOf s index r → RowSized r
 row_sized {s} {index} c = subst RowSized (sym c.answer) (read_sized c.reading index)

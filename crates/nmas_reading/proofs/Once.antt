@@ -1,6 +1,6 @@
 -- A text has one reading: rows that stand there and after which no row stands are the only ones. So text written and read gives the same rows, and
 -- text that is read is, byte for byte, the spelling of its rows. Assumes nothing.
-use Prim.Native.Nat.{ℕ, zero, suc, ◌+◌, ◌≤◌, ◌<◌}
+use Prim.Native.Nat.{ℕ, ◌+◌, ◌≤◌}
 use mathlib.Core.Path.{◌≡◌, refl, sym, ap, ◌∙◌}
 use mathlib.Core.List.{List, [], ◌∷◌, ◌++◌}
 use native.Mathlib.Omega.{arith}
@@ -16,10 +16,9 @@ use Rattle.nmas.specs.Rows.{field_of, fields_text, row_text, text_of, RowFine}
 use Rattle.nmas.specs.declared.Row.{Row}
 use Rattle.nmas.proofs.Fields.{longer}
 use Rattle.nmas_reading.specs.Reading.{IsText, Stops, TextRead, all, part, rows_read, row_read, numbered_row, RowsOf, RowOf}
-use Rattle.nmas_reading.specs.declared.RowsRead.{RowsRead}
-use Rattle.nmas_reading.specs.declared.RowsRead.TheVariants as rows
-use Rattle.nmas_reading.specs.declared.RowRead.{RowRead}
-use Rattle.nmas_reading.specs.declared.RowRead.TheVariants as row
+use Rattle.std.specs.Prelude.{Result, Ok}
+use Rattle.sections.specs.Refusal.{refused}
+use Rattle.sections.specs.declared.Refusal.{Refusal}
 use Rattle.nmas_reading.proofs.OneRow.{row_once}
 
 -- a row is not empty
@@ -78,18 +77,18 @@ module _ (s : List ℕ) where
   unfolding rows_read row_read
   one_reading (all ps t) (all qs u) =
       let o = rows_once 0 ps qs t.fine u.fine (text_stands ps t.same) (text_stands qs u.same) (text_none ps t.same) (text_none qs u.same) in
-      (ap (λ (rs : List Row). rows.Rows (length rs)) o, λ index. ap (λ (rs : List Row). numbered_row (nth rs index)) o)
+      (ap (λ (rs : List Row). Ok (length rs)) o, λ index. ap (λ (rs : List Row). numbered_row (nth rs index)) o)
   one_reading (all ps t) (part qs u) = absurd (not_both t u)
   one_reading (part ps t) (all qs u) = absurd (not_both u t)
   one_reading (part ps t) (part qs u) =
       let o = rows_once 0 ps qs t.fine u.fine t.begins u.begins (stops_none t) (stops_none u) in
-      (ap (λ (rs : List Row). rows.Refused 19 (length rs)) o, λ index. ap (λ (rs : List Row). row.Refused 19 (length rs)) o)
+      (ap (λ (rs : List Row). refused {A = ℕ} 19 (length rs)) o, λ index. ap (λ (rs : List Row). refused {A = Row} 19 (length rs)) o)
 
 -- no second answer fits
-pub rows_call_once : {s : List ℕ} {p q : RowsRead} → RowsOf s p → RowsOf s q → p ≡ q
+pub rows_call_once : {s : List ℕ} {p q : Result ℕ Refusal} → RowsOf s p → RowsOf s q → p ≡ q
 rows_call_once {s} a b = a.answer ∙ (one_reading s a.reading b.reading).0 ∙ sym b.answer
 
-pub row_call_once : {s : List ℕ} {index : ℕ} {p q : RowRead} → RowOf s index p → RowOf s index q → p ≡ q
+pub row_call_once : {s : List ℕ} {index : ℕ} {p q : Result Row Refusal} → RowOf s index p → RowOf s index q → p ≡ q
 row_call_once {s} {index} a b = a.answer ∙ (one_reading s a.reading b.reading).1 index ∙ sym b.answer
 
 -- ---- the two round trips
@@ -99,11 +98,11 @@ module _ (rs : List Row) (fine : Each RowFine rs) where
   written = all rs (record { fine = fine; same = refl })
 
   -- written and read: as many rows, and each the same
-  pub rows_written_and_read : {r : RowsRead} → RowsOf (text_of rs) r → r ≡ rows.Rows (length rs)
+  pub rows_written_and_read : {r : Result ℕ Refusal} → RowsOf (text_of rs) r → r ≡ Ok (length rs)
   unfolding rows_read written
   rows_written_and_read c = c.answer ∙ (one_reading (text_of rs) c.reading written).0
 
-  pub row_written_and_read : {index : ℕ} {r : RowRead} → RowOf (text_of rs) index r → r ≡ numbered_row (nth rs index)
+  pub row_written_and_read : {index : ℕ} {r : Result Row Refusal} → RowOf (text_of rs) index r → r ≡ numbered_row (nth rs index)
   unfolding row_read written
   row_written_and_read {index} c = c.answer ∙ (one_reading (text_of rs) c.reading written).1 index
 

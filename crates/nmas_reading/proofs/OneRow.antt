@@ -1,19 +1,18 @@
 -- A row where it stands in a text: its fields, and what is asked of them together. A text has one row at a place. Assumes nothing.
-use Prim.Native.Nat.{ℕ, zero, suc, ◌+◌, ◌≤◌, ◌<◌}
-use mathlib.Core.Path.{◌≡◌, refl, sym, ap, ◌∙◌}
-use mathlib.Core.Bool.{Bool, true, false, ◌&&◌, true≢false, false≢true}
+use Prim.Native.Nat.{ℕ, zero, suc, ◌+◌, ◌<◌}
+use mathlib.Core.Path.{◌≡◌, refl, sym, ◌∙◌}
+use mathlib.Core.Bool.{Bool, true, false, false≢true}
 use mathlib.Core.List.{List}
 use native.Mathlib.Omega.{arith}
 use borrow.Author.Tests.{eq-eqb, eqb-true}
 use lib.Dec.{eqb}
-use lib.ListN.{length}
 use Rattle.calendar.specs.Calendar.{is_date}
-use Rattle.decimal.specs.Standing.{Decides}
-use Rattle.decimal.proofs.Standing.{decides_none, decides_one}
-use Rattle.nmas.specs.Rows.{fields_of, field_of, row_text, RowFine}
+use Rattle.std.specs.Bool.{then_some}
+use Rattle.std.proofs.lemmas.Bool.{and_parts}
+use Rattle.nmas.specs.Rows.{field_of, row_text, RowFine}
 use Rattle.nmas.specs.Inner.Cells.{held, row_in}
 use Rattle.nmas.specs.declared.Row.{Row}
-use Rattle.nmas_reading.specs.Inner.Taking.{FieldsAt, FieldsFound, row_keeps, RowAt}
+use Rattle.nmas_reading.specs.Inner.Taking.{FieldsAt, row_keeps, RowAt, RowFound}
 use Rattle.nmas_reading.proofs.Fields.{same_fields, fields_once}
 
 -- ---- a row by its fields
@@ -59,11 +58,6 @@ module _ {s : List ℕ} {k : ℕ} where
 keeps_row : (r : Row) → RowFine r → row_keeps r.date r.recovery r.by_ace r.by_asoe ≡ true
 keeps_row r f = rw (f.date, eq-eqb r.recovery (r.by_ace + r.by_asoe) f.sum)
 
-both : (a b : Bool) → (a && b) ≡ true → (a ≡ true) × (b ≡ true)
-both true true e = (refl, refl)
-both true false e = absurd (false≢true e)
-both false b e = absurd (false≢true e)
-
 module _ {s : List ℕ} {k : ℕ} (cells : List ℕ) {e : ℕ} (t : FieldsAt s k (held cells) 17 e) where
   service : held cells 4 ≡ 0
   service = omega (arith, (t.ranges 4 (omega arith)).1)
@@ -75,7 +69,7 @@ module _ {s : List ℕ} {k : ℕ} (cells : List ℕ) {e : ℕ} (t : FieldsAt s k
     found : g ≡ true → RowAt s k (row_in cells) e
     unfolding row_text
     found h =
-        let b = both (is_date (held cells 0)) (eqb (held cells 10) (held cells 15 + held cells 16)) (sym c ∙ h) in
+        let b = and_parts (is_date (held cells 0)) (eqb (held cells 10) (held cells 15 + held cells 16)) (sym c ∙ h) in
         record {
           fine = record { ranges = held_row.ranges; date = b.0; sum = eqb-true (held cells 10) (held cells 15 + held cells 16) b.1 };
           stands = held_row.stands;
@@ -89,10 +83,13 @@ module _ {s : List ℕ} {k : ℕ} (cells : List ℕ) {e : ℕ} (t : FieldsAt s k
         λ j. row_keeps (o 0 (omega arith) j) (o 10 (omega arith) j) (o 15 (omega arith) j) (o 16 (omega arith) j) in
         false≢true (sym h ∙ c ∙ sym same ∙ keeps_row r u.fine)
 
-    pub row_decided : {n : ℕ} → n ≡ e → Decides (RowAt s k) g (row_in cells) n
-    row_decided q = rw q (record { found = found; none = none })
+    pub row_decided : RowFound s k cells (then_some g e)
+    row_decided = by g refl
+      where
+        by : (t : Bool) → g ≡ t → RowFound s k cells (then_some t e)
+        by true h = found h
+        by false h = none h
 
 -- there are not so many fields, so there is no row
-pub row_none : {s : List ℕ} {k : ℕ} {cells : List ℕ} {g : Bool} {n : ℕ} → FieldsFound s k cells g n → g ≡ false → Decides (RowAt s k) g (row_in cells) n
-row_none {s} {k} {cells} {g} {n} c h =
-    record { found = λ o. absurd (true≢false (sym o ∙ h)); none = λ o r e u. c.none o (field_of r) e (row_fields u) }
+pub row_none : {s : List ℕ} {k : ℕ} → ((field : ℕ → ℕ) (e : ℕ) → FieldsAt s k field 17 e → ⊥) → (r : Row) (e : ℕ) → RowAt s k r e → ⊥
+row_none c r e u = c (field_of r) e (row_fields u)

@@ -1,6 +1,6 @@
 -- Sums and products of whole numbers with a sign. Each number is what lies above 0 less what lies below, so that an equation of them is one of
 -- sizes, which `omega` reads. Assumes nothing.
-use Prim.Native.Nat.{ℕ, zero, suc, ◌+◌, ◌-◌, ◌*◌, ◌<◌, ◌^◌}
+use Prim.Native.Nat.{ℕ, zero, suc, ◌+◌, ◌-◌, ◌*◌, ◌<◌}
 use mathlib.Core.Path.{◌≡◌, refl, sym, ap, ◌∙◌}
 use mathlib.Core.Bool.{Bool, true, false, cond}
 use borrow.Author.Tests.{ltb-true, ltb-false}
@@ -8,8 +8,6 @@ use native.Mathlib.Omega.{arith}
 use native.Mathlib.Nat.{eq_of_mul-eq-mul_right}
 use lib.Dec.{ltb}
 use lib.IntN.{ℤ, pos, negsuc, neg_ℤ, ◌+ℤ◌, ◌-ℤ◌, ◌*ℤ◌, +ℤ_comm, +ℤ_idl, +ℤ_idr, neg_ℤ-+ℤ, neg_ℤ-neg_ℤ, *ℤ-negsuc}
-use mir.Syntax.{w64}
-use mir.Val.{SFits}
 use Rattle.numbers.specs.Sign.{less}
 use Rattle.numbers.proofs.Sizes.{less_plus}
 
@@ -132,8 +130,3 @@ less_turned z a b e = ap neg_ℤ e ∙ turned a b
 pub left_over : (a x y c d : ℕ) → a + y + d ≡ c + x → pos a -ℤ less x y ≡ less c d
 left_over a x y c d e =
     ap (λ (z : ℤ). z -ℤ less x y) (sym (+ℤ_idr (pos a))) ∙ less_minus a 0 x y ∙ less_same (a + y) (0 + x) c d (omega arith)
-
--- a difference of sizes below 2 ^ 63 is a number of 64 bits
-pub less_fits : (a b : ℕ) → a < 2 ^ 63 → b < 2 ^ 63 → SFits w64 (less a b)
-unfolding ◌⊖◌
-less_fits a b h k = signs a b (SFits w64) (λ m e. record { sfits = omega arith }) (λ m e. record { sfits = omega arith })

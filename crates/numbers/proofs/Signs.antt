@@ -4,10 +4,10 @@ use mathlib.Core.Path.{◌≡◌, refl, sym, subst}
 use mathlib.Core.Bool.{Bool, true, false, cond}
 use native.Mathlib.Omega.{arith}
 use lib.Dec.{T, ltb, ltb→lt}
-use lib.IntN.{ℤ, pos, negsuc, neg_ℤ, nat_abs, sub_ℕ, ◌+ℤ◌, ◌-ℤ◌, ◌*ℤ◌, +ℤ_idl}
+use lib.IntN.{ℤ, pos, negsuc, neg_ℤ, nat_abs, sub_ℕ, ◌+ℤ◌, ◌-ℤ◌, ◌*ℤ◌}
 use mir.Syntax.{w64}
-use mir.Val.{SFits, of_z}
-use Rattle.numbers.specs.Sign.{signed, negative}
+use mir.Val.{SFits}
+use Rattle.numbers.specs.Sign.{signed}
 
 pub size_signed : (b : Bool) (n : ℕ) → nat_abs (signed b n) ≡ n
 size_signed true zero = refl
@@ -23,15 +23,6 @@ size_negated (negsuc n) = refl
 pub sized : (z : ℤ) → nat_abs z < 2 ^ 63 → SFits w64 z
 sized (pos n) h = record { sfits = h }
 sized (negsuc n) h = record { sfits = omega arith }
-
--- and so is 0 less it
-pub negated_fits : (z : ℤ) → nat_abs z < 2 ^ 63 → SFits w64 (pos 0 -ℤ z)
-negated_fits z h = rw (+ℤ_idl (neg_ℤ z)) (sized (neg_ℤ z) (rw size_negated h))
-
--- the size of a number below 0, from its bits
-pub size_below_lem : (z : ℤ) → negative z ≡ true → SFits w64 z → 18_446_744_073_709_551_615 - of_z w64 z + 1 ≡ nat_abs z
-size_below_lem (pos n) h f = absurd (subst T (sym h) tt)
-size_below_lem (negsuc n) h f = omega (arith, f.sfits)
 
 sub_size : (a b : ℕ) → nat_abs (sub_ℕ a b) ≤ a + b
 sub_size a b = by (ltb a b) refl
@@ -55,7 +46,3 @@ minus_size a b = omega (arith, sum_size a (neg_ℤ b), size_negated b)
 pub size_times : (x : ℤ) (t : ℕ) → nat_abs (x *ℤ pos t) ≡ nat_abs x * t
 size_times (pos n) t = refl
 size_times (negsuc n) t = size_negated (pos (suc n * t))
-
--- a difference of small numbers is one of 64 bits
-pub minus_fits : (a b : ℤ) → nat_abs a + nat_abs b < 2 ^ 63 → SFits w64 (a -ℤ b)
-minus_fits a b h = sized (a -ℤ b) (omega (arith, minus_size a b))

@@ -3,8 +3,6 @@
 ghost use Rattle.std.specs.Prelude.{◌≡◌, ◌+◌, ◌<◌, ◌^◌, nat_abs, ◌+ℤ◌, ◌-ℤ◌};
 ghost use Rattle.numbers.specs.Sign.{signed, negative, less};
 
-use crate::twos;
-
 pub fn is_negative(x: i64) -> bool
     ensures { result ≡ negative x }
 {
@@ -15,12 +13,7 @@ pub fn is_negative(x: i64) -> bool
 pub fn size(x: i64) -> u64
     ensures { result ≡ nat_abs x }
 {
-    let u = twos::bits64(x);
-    if is_negative(x) {
-        18_446_744_073_709_551_615 - u + 1
-    } else {
-        u
-    }
+    x.unsigned_abs()
 }
 
 // The number of a sign and a size. A size of 0 gives 0 with either sign.

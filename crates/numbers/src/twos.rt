@@ -1,5 +1,4 @@
 // Two's complement: the number of given bits, the bits of a number, and the sizes of an i32 by its bits.
-// `as` keeps a value and does not reinterpret bits, so that the half in which the bits lie decides.
 ghost use Rattle.std.specs.Prelude.{◌≡◌, cond, ltb};
 ghost use Rattle.std.specs.Int.{w64};
 ghost use Rattle.std.proofs.Common.{to_z, of_z};
@@ -8,28 +7,20 @@ ghost use Rattle.numbers.specs.Sizes.{size_below, above_of, below_of};
 pub fn from_bits64(u: u64) -> i64
     ensures { result ≡ to_z w64 u }
 {
-    if u < 9_223_372_036_854_775_808 {
-        u as i64
-    } else {
-        -1 - ((18_446_744_073_709_551_615 - u) as i64)
-    }
+    u.cast_signed()
 }
 
 pub fn bits64(x: i64) -> u64
     ensures { result ≡ of_z w64 x }
 {
-    if x < 0 {
-        18_446_744_073_709_551_615 - ((-1 - x) as u64)
-    } else {
-        x as u64
-    }
+    x.cast_unsigned()
 }
 
 // The size of an i32 that is 0 or below. Of one above 0 the answer is larger than any size that a rule allows.
 pub fn size_of(w: u32) -> u32
     ensures { result ≡ size_below w }
 {
-    ((4_294_967_296 - (w as u64)) % 4_294_967_296) as u32
+    w.wrapping_neg()
 }
 
 // How far an i32 lies above 0.

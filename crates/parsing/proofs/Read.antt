@@ -1,5 +1,5 @@
 -- A header and a line are the ones of the bytes where each of their fields is. Assumes nothing.
-use Prim.Native.Nat.{ℕ, ◌+◌, ◌*◌}
+use Prim.Native.Nat.{ℕ, ◌+◌}
 use mathlib.Core.List.{List}
 use mathlib.Core.Path.{◌≡◌}
 use Rattle.ground.specs.Bytes.{byte_at, u16_at, u32_at, i64_at}

@@ -2,11 +2,11 @@
 use Prim.Native.Nat.{ℕ, ◌+◌, ◌*◌, ◌≤◌, ◌<◌}
 use mathlib.Core.Path.{◌≡◌}
 use mathlib.Core.List.{List, [], ◌∷◌}
-use mathlib.Core.Bool.{Bool, true, false, not}
+use mathlib.Core.Bool.{Bool, true, false}
 use lib.Dec.{eqb, leb}
 use lib.ListN.{length}
 use native.Mathlib.Omega.{arith}
-use borrow.Author.Tests.{le-leb, lt-leb, leb-true, eqb-true, not-true, not-false}
+use borrow.Author.Tests.{le-leb, lt-leb, leb-true, eqb-true}
 use Rattle.ground.specs.Inner.Every.{Every}
 use Rattle.ground.proofs.Every.{every}
 use Rattle.sections.specs.Search.{all}
@@ -36,18 +36,18 @@ module _ (s : List ℕ) where
 
   module _ (l : 24 ≤ length s) {b : Bool} (e : b ≡ headed s) where
     -- no header
-    pub not_headed : not b ≡ true → false ≡ is_statement s
+    pub not_headed : b ≡ false → false ≡ is_statement s
     unfolding is_statement
-    not_headed t = rw (le-leb 24 (length s) l, ← e, not-true b t)
+    not_headed t = rw (le-leb 24 (length s) l, ← e, t)
 
     -- a header: the lines decide
-    pub lines_decide : (h : Heading) {r : Bool} → not b ≡ false → h ≡ heading_at s → r ≡ all (line_holds s) h.lines → r ≡ is_statement s
+    pub lines_decide : (h : Heading) {r : Bool} → b ≡ true → h ≡ heading_at s → r ≡ all (line_holds s) h.lines → r ≡ is_statement s
     unfolding is_statement
-    lines_decide h t g d = rw (le-leb 24 (length s) l, ← e, not-false b t, ← g) d
+    lines_decide h t g d = rw (le-leb 24 (length s) l, ← e, t, ← g) d
 
     -- and they lie in the bytes
-    pub lines_lie : (h : Heading) → not b ≡ false → h ≡ heading_at s → 24 + h.lines * 24 ≤ length s
-    lines_lie h t g = rw g (headed_long s (rw e at (not-false b t)))
+    pub lines_lie : (h : Heading) → b ≡ true → h ≡ heading_at s → 24 + h.lines * 24 ≤ length s
+    lines_lie h t g = rw g (headed_long s (rw e at (t)))
 
 -- what a statement has: 24 bytes, a header, lines that hold
 module _ (s : List ℕ) (q : is_statement s ≡ true) where

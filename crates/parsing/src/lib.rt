@@ -14,13 +14,7 @@ fn is_marked(s: &[u8]) -> bool
     requires { 24 ≤ length s.now }
     ensures { result ≡ statement_marked s.now }
 {
-    let mark = b"RCS";
-    (s[0] == mark[0])
-        & (s[1] == mark[1])
-        & (s[2] == mark[2])
-        & (s[3] == 0)
-        & (read::u16_at(s, 4) == 1)
-        & (read::u32_at(s, 20) == 0)
+    s.starts_with(b"RCS\0") & (read::u16_at(s, 4) == 1) & (read::u32_at(s, 20) == 0)
 }
 
 pub fn heading_at(s: &[u8]) -> Heading
@@ -118,10 +112,8 @@ fn lines_hold(s: &[u8], n: usize) -> bool
     ensures { result ≡ all (line_holds s.now) n }
 {
     let mut holds = true;
-    let mut i = 0;
-    while i < n {
+    for i in 0..n {
         holds &= line_holds(s, i);
-        i += 1;
     }
     holds
 }

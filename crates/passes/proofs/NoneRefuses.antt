@@ -2,26 +2,22 @@
 -- of them finds something wrong, a check does. Assumes nothing.
 use Prim.Native.Nat.{ℕ, ◌<◌}
 use mathlib.Core.List.{List}
-use mathlib.Core.Path.{◌≡◌, refl, sym, ap, ◌∙◌}
+use mathlib.Core.Path.{◌≡◌, refl, sym, ◌∙◌}
 use mathlib.Core.Bool.{Bool, true, false, not}
 use borrow.Author.Tests.{not-true, not-false}
 use Rattle.ground.specs.Bytes.{part_from}
 use Rattle.sections.specs.First.{first_bad}
 use Rattle.sections.specs.Order.{rises_by}
 use Rattle.sections.specs.Inner.Order.{Rises}
-use Rattle.sections.specs.Refusal.{at_record, earlier, first_of}
-use Rattle.sections.specs.declared.Checked.TheVariants.{Good}
-use Rattle.sections.specs.declared.Verdict.{Verdict}
-use Rattle.sections.specs.declared.Verdict.TheVariants.{Accepted, Refused}
+use Rattle.sections.specs.Refusal.{at_record, earlier, first_of, Verdict, unrefused}
+use Rattle.std.specs.Prelude.{None, Ok, Err}
 use Rattle.sections.proofs.Cases.{no_yes}
 use Rattle.sections.proofs.First.{first_each, first_good}
-use Rattle.sections.proofs.Refusal.{record_held, first_held, earlier_last}
+use Rattle.sections.proofs.Verdicts.{record_held, first_held}
 use Rattle.records.specs.Rows.{entry_row, constraint_row, unit_row, energy_row}
 use Rattle.rules.specs.Rules.{entry_ok, constraint_ok, unit_ok, energy_ok, contract_ok, constraint_below, unit_below, energy_below, contract_below}
 use Rattle.rules.specs.Inner.Facts.{EntryRule, ConstraintRule}
 use Rattle.rules.proofs.Rule.{entry_rules, constraint_rules, constraints_rise}
-use Rattle.section_check.specs.Inner.Checks.{section_verdict}
-use Rattle.section_check.specs.declared.Check.TheVariants.{EntryFields, ConstraintFields, ContractFields, ConstraintOrder, ContractOrder}
 use Rattle.factors.specs.Naming.{id_of, named_at}
 use Rattle.factors.specs.Factors.{factors_at}
 use Rattle.totals.specs.Sums.{entry_has_sums}
@@ -30,26 +26,21 @@ use Rattle.unit_pass.proofs.Said.{UnitsHold, units_say, units_said}
 use Rattle.energy_pass.specs.Inner.Holds.{energies_hold}
 use Rattle.energy_pass.proofs.Said.{EnergiesHold, energies_say, energies_said}
 use Rattle.book.specs.declared.header.Header.{Header}
-use Rattle.book.specs.Header.{units_from, energies_from, contracts_from}
+use Rattle.book.specs.Header.{units_from, energies_from}
 use Rattle.book.specs.Book.{Book, book_in}
 use Rattle.book.specs.Table.{check5, check6, check7, check8, check9, record_checks}
 use Rattle.book.proofs.Passed.{none_refused}
 use Rattle.passes.specs.Inner.Passes.{short_checks, accepts}
 
--- what is answered; k is where the contracts start
-pub short_is : (b : List ℕ) (h : Header) {k : ℕ} {v₁ v₂ v₃ v₄ v₅ t₃ t₂ t₁ v : Verdict} → v₁ ≡ section_verdict EntryFields 24 5 (part_from 24 b) → v₂ ≡ section_verdict ConstraintFields 84 h.constraints (part_from 84 b) → k ≡ contracts_from h → v₃ ≡ section_verdict ContractFields k h.contracts (part_from k b) → v₄ ≡ section_verdict ConstraintOrder 84 h.constraints (part_from 84 b) → v₅ ≡ section_verdict ContractOrder k h.contracts (part_from k b) → t₃ ≡ earlier v₄ v₅ → t₂ ≡ earlier v₃ t₃ → t₁ ≡ earlier v₂ t₂ → v ≡ earlier v₁ t₁ → v ≡ first_of (short_checks (book_in b h))
-unfolding short_checks section_verdict first_of
-short_is b h {v₅ = v₅} p q e r s t a₃ a₂ a₁ a = a ∙ rw (a₁, a₂, a₃, ← earlier_last v₅, p, q, r, s, t, e)
-
 -- what the short sections show
 record Short (B : Book) : Type 0 where
-  entries : first_bad (λ i. entry_ok (B.entry i)) 5 ≡ Good
-  constraints : first_bad (λ i. constraint_ok (B.constraint i)) B.header.constraints ≡ Good
-  contracts : first_bad (λ i. contract_ok (B.contract i)) B.header.contracts ≡ Good
-  rise : first_bad (rises_by constraint_below B.constraint) B.header.constraints ≡ Good
-  contracts_order : first_bad (rises_by contract_below B.contract) B.header.contracts ≡ Good
+  entries : first_bad (λ i. entry_ok (B.entry i)) 5 ≡ None
+  constraints : first_bad (λ i. constraint_ok (B.constraint i)) B.header.constraints ≡ None
+  contracts : first_bad (λ i. contract_ok (B.contract i)) B.header.contracts ≡ None
+  rise : first_bad (rises_by constraint_below B.constraint) B.header.constraints ≡ None
+  contracts_order : first_bad (rises_by contract_below B.contract) B.header.contracts ≡ None
 
-module _ (B : Book) {v : Verdict} (g : v ≡ Accepted) (q : v ≡ first_of (short_checks B)) where
+module _ (B : Book) {v : Verdict} (g : v ≡ unrefused) (q : v ≡ first_of (short_checks B)) where
   short : Short B
   unfolding short_checks
   short =
@@ -97,26 +88,26 @@ module _ (B : Book) {v : Verdict} (g : v ≡ Accepted) (q : v ≡ first_of (shor
 
 -- ---- what acceptance says of what is looked at
 
-refuses : (v : Verdict) → (v ≡ Accepted → ⊥) → false ≡ accepts v
+refuses : (v : Verdict) → (v ≡ unrefused → ⊥) → false ≡ accepts v
 unfolding accepts
-refuses Accepted d = absurd (d refl)
-refuses (Refused number place) d = refl
+refuses (Ok _) d = absurd (d refl)
+refuses (Err e) d = refl
 
-pub accepts_only : (v : Verdict) → true ≡ accepts v → Accepted ≡ v
+pub accepts_only : (v : Verdict) → true ≡ accepts v → unrefused ≡ v
 unfolding accepts
-accepts_only Accepted e = refl
-accepts_only (Refused number place) e = absurd (no_yes refl (sym e))
+accepts_only (Ok _) e = refl
+accepts_only (Err x) e = absurd (no_yes refl (sym e))
 
 record Through (B : Book) : Type 0 where
-  short : first_of (short_checks B) ≡ Accepted
+  short : first_of (short_checks B) ≡ unrefused
   units : UnitsHold B.constraint B.header.constraints B.unit B.header.units
   energies : EnergiesHold B.energy B.header.energies B.entry
 
-short_all : (B : Book) → Short B → first_of (short_checks B) ≡ Accepted
+short_all : (B : Book) → Short B → first_of (short_checks B) ≡ unrefused
 unfolding short_checks at_record earlier first_of
 short_all B s = rw (s.entries, s.constraints, s.contracts, s.rise, s.contracts_order)
 
-through : (B : Book) → first_of (record_checks B) ≡ Accepted → Through B
+through : (B : Book) → first_of (record_checks B) ≡ unrefused → Through B
 unfolding check5 check6 check7 check8 check9
 through B e =
     let c = none_refused B e in
@@ -153,36 +144,31 @@ through B e =
 -- ---- so no is right where one of them finds something; v is what it answered
 
 module _ (B : Book) where
-  refused : (Through B → ⊥) → false ≡ accepts (first_of (record_checks B))
-  refused d = refuses (first_of (record_checks B)) (λ e. d (through B e))
+  one_refuses : (Through B → ⊥) → false ≡ accepts (first_of (record_checks B))
+  one_refuses d = refuses (first_of (record_checks B)) (λ e. d (through B e))
 
-  module _ {v : Verdict} {number place : ℕ} (d : v ≡ Refused number place) where
-    not_accepted : v ≡ Accepted → ⊥
-    unfolding accepts
-    not_accepted e = no_yes (ap accepts d) (ap accepts e)
+  pub short_refuse : {v : Verdict} → (v ≡ unrefused → ⊥) → v ≡ first_of (short_checks B) → false ≡ accepts (first_of (record_checks B))
+  short_refuse d q = one_refuses (λ t. d (q ∙ t.short))
 
-    pub short_refuse : v ≡ first_of (short_checks B) → false ≡ accepts (first_of (record_checks B))
-    short_refuse q = refused (λ t. not_accepted (q ∙ t.short))
+-- ---- what a pass said of the sections as they were lent; t is what it answered
 
--- ---- what a pass said of the sections where they stand; t is what it answered
-
-module _ (b : List ℕ) (h : Header) {a : ℕ} {t : Bool} where
-  module _ (e : a ≡ units_from h) (f : t ≡ units_hold (constraint_row (part_from 84 b)) h.constraints (unit_row (part_from a b)) h.units) where
+module _ (b : List ℕ) (h : Header) {t : Bool} where
+  module _ {cons units : List ℕ} (c : cons ≡ part_from 84 b) (e : units ≡ part_from (units_from h) b) (f : t ≡ units_hold (constraint_row cons) h.constraints (unit_row units) h.units) where
     units_is : t ≡ units_hold (book_in b h).constraint h.constraints (book_in b h).unit h.units
-    units_is = rw e at f
+    units_is = rw (c, e) at f
 
     pub units_pass : not t ≡ false → UnitsHold (book_in b h).constraint h.constraints (book_in b h).unit h.units
     units_pass g = units_say _ _ _ _ (sym units_is ∙ not-false t g)
 
     pub units_refuse : not t ≡ true → false ≡ accepts (first_of (record_checks (book_in b h)))
-    units_refuse g = refused (book_in b h) (λ z. no_yes (sym units_is ∙ not-true t g) (units_said _ _ _ _ z.units))
+    units_refuse g = one_refuses (book_in b h) (λ z. no_yes (sym units_is ∙ not-true t g) (units_said _ _ _ _ z.units))
 
-  module _ (e : a ≡ energies_from h) (f : t ≡ energies_hold (energy_row (part_from a b)) h.energies (entry_row (part_from 24 b))) where
+  module _ {regions energy : List ℕ} (c : regions ≡ part_from 24 b) (e : energy ≡ part_from (energies_from h) b) (f : t ≡ energies_hold (energy_row energy) h.energies (entry_row regions)) where
     energies_is : t ≡ energies_hold (book_in b h).energy h.energies (book_in b h).entry
-    energies_is = rw e at f
+    energies_is = rw (c, e) at f
 
     pub energies_pass : not t ≡ false → EnergiesHold (book_in b h).energy h.energies (book_in b h).entry
     energies_pass g = energies_say _ _ _ (sym energies_is ∙ not-false t g)
 
     pub energies_refuse : not t ≡ true → false ≡ accepts (first_of (record_checks (book_in b h)))
-    energies_refuse g = refused (book_in b h) (λ z. no_yes (sym energies_is ∙ not-true t g) (energies_said _ _ _ z.energies))
+    energies_refuse g = one_refuses (book_in b h) (λ z. no_yes (sym energies_is ∙ not-true t g) (energies_said _ _ _ z.energies))

@@ -4,47 +4,45 @@
 
 ghost use Rattle.std.specs.Prelude.{◌≡◌};
 ghost use Rattle.sections.specs.Refusal.{first_of};
-ghost use Rattle.book.specs.Book.{book_in};
+ghost use Rattle.book.specs.Laid.{book_at};
 ghost use Rattle.book.specs.Table.{record_checks};
-ghost use Rattle.book.specs.Inner.Facts.{Laid};
 ghost use Rattle.passes.specs.Inner.Passes.{short_checks, accepts};
 
-use book::header::Header;
-use section_check::{Check, section};
-use sections::Verdict;
+use book::laid::LaidBook;
+use records::rows::{Constraint, Contract, Entry};
+use sections::Refusal;
 
 // 5 and 6 of the short sections: region entries, constraints, contracts.
-fn short_sections(book: &[u8], h: Header) -> Verdict
-    requires { Laid book.now h }
-    ensures { result ≡ first_of (short_checks (book_in book.now h)) }
+fn short_sections(book: &LaidBook) -> Result<(), Refusal>
+    ensures { result ≡ first_of (short_checks (book_at book.now)) }
 {
+    let bytes = book.bytes;
+    let h = book.header;
     let from = h.contracts_at();
     let paid = h.contracts as usize;
     let count = h.constraints as usize;
-    let regions = section(Check::EntryFields, book, 24, 5);
-    let constraints = section(Check::ConstraintFields, book, 84, count);
-    let contracts = section(Check::ContractFields, book, from, paid);
-    let ids = section(Check::ConstraintOrder, book, 84, count);
-    let contract_ids = section(Check::ContractOrder, book, from, paid);
-    let tail = sections::earlier(contracts, sections::earlier(ids, contract_ids));
-    sections::earlier(regions, sections::earlier(constraints, tail))
+    section_check::fields::<Entry>(bytes, 24, 5)?;
+    section_check::fields::<Constraint>(bytes, 84, count)?;
+    section_check::fields::<Contract>(bytes, from, paid)?;
+    section_check::order::<Constraint>(bytes, 84, count)?;
+    section_check::order::<Contract>(bytes, from, paid)
 }
 
 // Whether none of checks 5 to 9 refuses the book.
-pub fn none_refuses(book: &[u8], h: Header) -> bool
-    requires { Laid book.now h }
-    ensures { result ≡ accepts (first_of (record_checks (book_in book.now h))) }
+// Not inlined, so that its sums have room on the stack no longer than it looks.
+#[inline(never)]
+pub fn none_refuses(book: &LaidBook) -> bool
+    ensures { result ≡ accepts (first_of (record_checks (book_at book.now))) }
 {
-    if let Verdict::Refused(_, _) = short_sections(book, h) {
+    if short_sections(book).is_err() {
         return false;
     }
-    let from = h.units_at();
+    let h = book.header;
     let count = h.constraints as usize;
-    if !unit_pass::units_hold(&book[84..], count, &book[from..], h.units as usize) {
+    if !unit_pass::units_hold(book.constraints(), count, book.units(), h.units as usize) {
         return false;
     }
-    let start = h.energies_at();
-    if !energy_pass::energies_hold(&book[24..], &book[start..], h.energies as usize) {
+    if !energy_pass::energies_hold(book.entries(), book.energies(), h.energies as usize) {
         return false;
     }
     true

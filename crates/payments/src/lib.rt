@@ -11,6 +11,7 @@ ghost use Rattle.emission.specs.Inner.Emitted.{Emitted, LineRoom};
 
 use amounts::pools;
 use lines::make;
+use lines::portion::Portion;
 use records::rows;
 use records::rows::Contract;
 use totals::entries::Totals;
@@ -22,45 +23,50 @@ fn region_lines(
     regions: &[u8],
     k: Contract,
     g: usize,
-    own: Totals,
+    own: &Totals,
 ) -> usize
     requires in_bounds { (60 ≤ length regions.now) × (g < 5) }
-    requires contract_settles { ContractSettles (entry_row regions.now) k own }
-    requires line_room { LineRoom buf.old place (length (region_lines (entry_row regions.now) (entry_of own) k g)) }
-    ensures { Emitted buf.old place (region_lines (entry_row regions.now) (entry_of own) k g) buf.new result }
+    requires contract_settles { ContractSettles (entry_row regions.now) k own.now }
+    requires line_room { LineRoom buf.old place (length (region_lines (entry_row regions.now) (entry_of own.now) k g)) }
+    ensures { Emitted buf.old place (region_lines (entry_row regions.now) (entry_of own.now) k g) buf.new result }
 {
-    let factors = k.factors;
-    let factor = factors[g];
+    let factor = k.factors[g];
     if factor == 0 {
         return place;
     }
     let e = rows::entry_row(regions, g);
-    let ace = own.ace;
-    let asoe = own.asoe;
     let x = pools::halves_of(k.payment, factor);
-    let by_ace = make::ace_line(k.id, g, x, ace[g], e.ace as u64);
-    let by_asoe = make::asoe_line(k.id, g, x, asoe[g], e.asoe as u64);
+    let consumed = Portion {
+        own: own.ace[g],
+        total: e.ace as u64,
+    };
+    let sent = Portion {
+        own: own.asoe[g],
+        total: e.asoe as u64,
+    };
+    let by_ace = make::ace_line(k.id, g, x, consumed);
+    let by_asoe = make::asoe_line(k.id, g, x, sent);
     emission::emit_two(buf, place, by_ace, by_asoe)
 }
 
 // A contract's lines, its regions rising.
+// Not inlined, so that the five regions have room on the stack no longer than they are walked.
+#[inline(never)]
 pub fn contract_lines(
     buf: &mut [u8],
     place: usize,
     regions: &[u8],
     k: Contract,
-    own: Totals,
+    own: &Totals,
 ) -> usize
     requires in_bounds { 60 ≤ length regions.now }
-    requires contract_settles { ContractSettles (entry_row regions.now) k own }
-    requires line_room { LineRoom buf.old place (length (joined (region_lines (entry_row regions.now) (entry_of own) k) 5)) }
-    ensures { Emitted buf.old place (joined (region_lines (entry_row regions.now) (entry_of own) k) 5) buf.new result }
+    requires contract_settles { ContractSettles (entry_row regions.now) k own.now }
+    requires line_room { LineRoom buf.old place (length (joined (region_lines (entry_row regions.now) (entry_of own.now) k) 5)) }
+    ensures { Emitted buf.old place (joined (region_lines (entry_row regions.now) (entry_of own.now) k) 5) buf.new result }
 {
     let mut end = place;
-    let mut g = 0;
-    while g < 5 {
+    for g in 0..5 {
         end = region_lines(buf, end, regions, k, g, own);
-        g += 1;
     }
     end
 }

@@ -53,10 +53,8 @@ pub fn put_lines(text: &mut [u8], at: usize, s: &[u8], n: usize) -> usize
     ensures { Wrote text.old at (lines_text (lines_in s.now n)) text.new result }
 {
     let mut e = at;
-    let mut i = 0;
-    while i < n {
+    for i in 0..n {
         e = put_line(text, e, parsing::line_at(s, i));
-        i += 1;
     }
     e
 }

@@ -1,5 +1,5 @@
 -- The lines of a statement's bytes are laid one behind the other. Assumes nothing.
-use mathlib.Core.Path.{◌≡◌, refl, ap, ◌∙◌}
+use mathlib.Core.Path.{◌≡◌, refl}
 use mathlib.Core.List.{List, [], ◌∷◌, ◌++◌}
 use Rattle.statement.specs.Statement.{line_bytes, lines_bytes}
 use Rattle.statement.specs.declared.Line.{Line}

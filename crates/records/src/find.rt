@@ -14,6 +14,7 @@ pub fn first_from(s: &[u8], size: usize, n: usize, key: u32) -> usize
 {
     let mut low = 0;
     let mut high = n;
+    // The records are bytes, so std's search over the elements of a slice does not serve.
     while low < high {
         let middle = low + (high - low) / 2;
         if read::u32_at(s, middle * size) < key {

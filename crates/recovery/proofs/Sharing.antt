@@ -17,6 +17,7 @@ use Rattle.amounts.specs.Pools.{pools_of, halves_of}
 use Rattle.amounts.specs.declared.pools.Residual.{Residual}
 use Rattle.amounts.proofs.Sizes.{pools_small, residual_small, halves_small}
 use Rattle.sharing.specs.Inner.Shares.{Sorted, Shareable, part_sum, part_cut}
+use Rattle.sharing.specs.declared.shares.Part.{Part}
 use Rattle.recovery.specs.ByKind.{credit_by, charge_by, pool_by}
 use Rattle.recovery.specs.Inner.Shapes.{part_of, consumed_part, sent_part, recovery_of}
 use Rattle.recovery.specs.Inner.Rests.{PaidBy, PartIs, CutIs}
@@ -29,7 +30,6 @@ use Rattle.ground.specs.Bytes.{part_from}
 use Rattle.ground.proofs.Part.{part_drop}
 use Rattle.rules.specs.Inner.Facts.{ConstraintRule}
 use Rattle.market.specs.Kinds.{basis_of}
-use Rattle.market.specs.declared.Basis.{Basis}
 use Rattle.totals.specs.declared.entries.EnergyPart.{EnergyPart}
 use Rattle.amounts.specs.declared.pools.Pools.{Pools}
 use Rattle.recovery.specs.Recovers.{recovers}
@@ -104,19 +104,19 @@ module _ {E : Energies} (s : EnergiesSound E) where
 pub rows_room : (s : List ℕ) (p : EnergyPart) → PartLaid s p → p.rows * 24 ≤ length (part_from p.from s)
 rows_room s p d = rw (part_drop p.from s, length-drop p.from s) (omega (arith, d.rows))
 
--- an amount over a constraint's regions, by the total that was found
-module _ {E : Energies} (p : EnergiesSound E) (r : Constraint) (amount whole : ℕ) (basis : Basis) (w : whole ≡ over_regions E.entry r) (e : basis ≡ basis_of r.service) where
-  part_is : record { amount = amount; whole = whole; mask = r.mask; basis = basis } ≡ part_of E.entry r amount
+-- an amount over a constraint's regions as a part, by the total that was found
+module _ {E : Energies} (p : EnergiesSound E) (r : Constraint) (amount whole : ℕ) (w : whole ≡ over_regions E.entry r) {part : Part} (e : part ≡ record { amount = amount; whole = whole; mask = r.mask; basis = basis_of r.service }) where
+  part_is : part ≡ part_of E.entry r amount
   unfolding part_of
-  part_is = rw (w, e)
+  part_is = rw (e, w)
 
-  pub over_shareable : 0 < whole → amount ≤ 50_000_000_000 → Shareable (record { amount = amount; whole = whole; mask = r.mask; basis = basis }) E.row E.rows
+  pub over_shareable : 0 < whole → amount ≤ 50_000_000_000 → Shareable part E.row E.rows
   over_shareable a s = rw part_is (constraint_shareable p r amount (rw w at a) s)
 
-  pub over_is : {x : ℕ} → (x ≡ part_sum (record { amount = amount; whole = whole; mask = r.mask; basis = basis }) E.row E.rows) × (x ≤ 51_200_000_000_000) → PartIs E r amount x
+  pub over_is : {x : ℕ} → (x ≡ part_sum part E.row E.rows) × (x ≤ 51_200_000_000_000) → PartIs E r amount x
   over_is s = record { sum = rw part_is at s.0; small = s.1 }
 
-  pub cut_is : {x : ℤ} → (x ≡ part_cut (record { amount = amount; whole = whole; mask = r.mask; basis = basis }) E.row E.rows) × (nat_abs x ≤ 51_200_000_000) → CutIs E r amount x
+  pub cut_is : {x : ℤ} → (x ≡ part_cut part E.row E.rows) × (nat_abs x ≤ 51_200_000_000) → CutIs E r amount x
   cut_is s = record { cut = rw part_is at s.0; small = s.1 }
 
 -- ---- what a regulation pool rests on is small

@@ -1,7 +1,8 @@
 // Which of a record's lines a pool has, and what such a pool rests on.
 ghost use Rattle.std.specs.Prelude.{◌≡◌};
 ghost use Rattle.rules.specs.Inner.Facts.{ConstraintRule};
-ghost use Rattle.recovery.specs.ByKind.{above_by, below_by};
+ghost use Rattle.recovery.specs.ByKind.{unit_factors, rest_factors, factor_above, factor_below};
+ghost use Rattle.recovery.specs.declared.kinds.Factors.{Factors};
 ghost use Rattle.recovery.specs.Inner.Shapes.{recovery_of};
 
 use amounts::pools;
@@ -17,30 +18,65 @@ pub enum Kind {
     Payment,
 }
 
+// A factor by the two sides of 0, CF or RCF, and one that is never above 0, DCF or DRCF: each part by its size.
+#[derive(Clone, Copy)]
+pub struct Factors {
+    pub above: u32,
+    pub below: u32,
+    pub default: u32,
+}
+
+// What has factors: a unit row, and a constraint for its residual.
+pub trait Factored: Copy {
+    ghost factors: { Self → Factors };
+
+    fn factors(self) -> Factors
+        ensures { result ≡ factors self };
+}
+
+impl Factored for UnitRow {
+    ghost factors = { unit_factors };
+
+    fn factors(self) -> Factors {
+        Factors {
+            above: self.pcf,
+            below: self.ncf,
+            default: self.dcf,
+        }
+    }
+}
+
+impl Factored for Constraint {
+    ghost factors = { rest_factors };
+
+    fn factors(self) -> Factors {
+        Factors {
+            above: self.prcf,
+            below: self.nrcf,
+            default: self.drcf,
+        }
+    }
+}
+
 impl Kind {
-    // What a unit row's factor credits: FPP by CF.
-    pub fn above(self, q: UnitRow) -> u32
-        ensures { result ≡ above_by self q }
+    // What a factor credits: FPP by CF.
+    pub fn above<R: Factored>(self, r: R) -> u32
+        ensures { result ≡ factor_above self (R.factors r) }
     {
         match self {
-            Kind::Contingency => 0,
-            Kind::Fpp => q.pcf,
-            Kind::Used => 0,
-            Kind::Unused => 0,
-            Kind::Payment => 0,
+            Kind::Fpp => r.factors().above,
+            _ => 0,
         }
     }
 
     // What it charges: used by min(0, CF), unused by DCF.
-    pub fn below(self, q: UnitRow) -> u32
-        ensures { result ≡ below_by self q }
+    pub fn below<R: Factored>(self, r: R) -> u32
+        ensures { result ≡ factor_below self (R.factors r) }
     {
         match self {
-            Kind::Contingency => 0,
-            Kind::Fpp => q.ncf,
-            Kind::Used => q.ncf,
-            Kind::Unused => q.dcf,
-            Kind::Payment => 0,
+            Kind::Fpp | Kind::Used => r.factors().below,
+            Kind::Unused => r.factors().default,
+            _ => 0,
         }
     }
 }

@@ -1,7 +1,7 @@
 -- What checks 5 and 6 say where they refuse nothing: each record's rule, and each section's order. Assumes nothing.
 use Prim.Native.Nat.{ℕ, suc, ◌*◌, ◌≤◌, ◌<◌}
-use mathlib.Core.List.{List, [], ◌∷◌}
-use mathlib.Core.Path.{◌≡◌, refl, sym, ◌∙◌}
+use mathlib.Core.List.{[], ◌∷◌}
+use mathlib.Core.Path.{◌≡◌, refl}
 use mathlib.Core.Bool.{Bool, true, false, ◌&&◌, ◌||◌, not}
 use mathlib.Core.Logic.{◌⊎◌, inl, inr, ⊎_elim}
 use borrow.Author.Tests.{leb-true, leb-false, eqb-true, ltb-true, not-true}
@@ -13,11 +13,11 @@ use Rattle.sections.specs.Order.{rises_by}
 use Rattle.sections.specs.Inner.Order.{Rises, PairsRise}
 use Rattle.sections.specs.Search.{all}
 use Rattle.sections.specs.Total.{total}
-use Rattle.sections.specs.declared.Checked.TheVariants.{Good}
+use Rattle.std.specs.Prelude.{None}
 use Rattle.sections.proofs.First.{first_each}
 use Rattle.sections.proofs.Search.{all_each}
 use Rattle.sections.proofs.Order.{rises, rises_step, pairs_rise}
-use Rattle.market.specs.Kinds.{is_service, regulates, mode_with}
+use Rattle.market.specs.Kinds.{regulates, mode_with}
 use Rattle.rules.specs.Rules.{entry_tests, entry_ok, mode_of, terms_ok, no_terms, mode_fits, constraint_tests, constraint_ok, unit_tests, unit_ok, energy_tests, energy_ok, factor_of, shares_ok, contract_tests, contract_ok, constraint_below, unit_below, energy_below, contract_below}
 use Rattle.rules.specs.Inner.Facts.{EntryRule, Bare, Terms, ConstraintRule, UnitRule, EnergyRule, ContractRule}
 use Rattle.records.specs.declared.rows.Entry.{Entry}
@@ -164,31 +164,31 @@ contract_rule r e =
 
 -- ---- a section without a refused record keeps the rule at each; row i is its record i
 
-pub entry_rules : (row : ℕ → Entry) (n : ℕ) → first_bad (λ i. entry_ok (row i)) n ≡ Good → (i : ℕ) → i < n → EntryRule (row i)
+pub entry_rules : (row : ℕ → Entry) (n : ℕ) → first_bad (λ i. entry_ok (row i)) n ≡ None → (i : ℕ) → i < n → EntryRule (row i)
 entry_rules row n g i l = entry_rule (row i) (first_each (λ i. entry_ok (row i)) n g i l)
 
-pub constraint_rules : (row : ℕ → Constraint) (n : ℕ) → first_bad (λ i. constraint_ok (row i)) n ≡ Good → (i : ℕ) → i < n → ConstraintRule (row i)
+pub constraint_rules : (row : ℕ → Constraint) (n : ℕ) → first_bad (λ i. constraint_ok (row i)) n ≡ None → (i : ℕ) → i < n → ConstraintRule (row i)
 constraint_rules row n g i l = constraint_rule (row i) (first_each (λ i. constraint_ok (row i)) n g i l)
 
-pub unit_rules : (row : ℕ → UnitRow) (n : ℕ) → first_bad (λ i. unit_ok (row i)) n ≡ Good → (i : ℕ) → i < n → UnitRule (row i)
+pub unit_rules : (row : ℕ → UnitRow) (n : ℕ) → first_bad (λ i. unit_ok (row i)) n ≡ None → (i : ℕ) → i < n → UnitRule (row i)
 unit_rules row n g i l = unit_rule (row i) (first_each (λ i. unit_ok (row i)) n g i l)
 
-pub energy_rules : (row : ℕ → EnergyRow) (n : ℕ) → first_bad (λ i. energy_ok (row i)) n ≡ Good → (i : ℕ) → i < n → EnergyRule (row i)
+pub energy_rules : (row : ℕ → EnergyRow) (n : ℕ) → first_bad (λ i. energy_ok (row i)) n ≡ None → (i : ℕ) → i < n → EnergyRule (row i)
 energy_rules row n g i l = energy_rule (row i) (first_each (λ i. energy_ok (row i)) n g i l)
 
-pub contract_rules : (row : ℕ → Contract) (n : ℕ) → first_bad (λ i. contract_ok (row i)) n ≡ Good → (i : ℕ) → i < n → ContractRule (row i)
+pub contract_rules : (row : ℕ → Contract) (n : ℕ) → first_bad (λ i. contract_ok (row i)) n ≡ None → (i : ℕ) → i < n → ContractRule (row i)
 contract_rules row n g i l = contract_rule (row i) (first_each (λ i. contract_ok (row i)) n g i l)
 
 -- ---- and a section in order rises
 
-pub constraints_rise : (row : ℕ → Constraint) (n : ℕ) → first_bad (rises_by constraint_below row) n ≡ Good → Rises (λ i. (row i).id) n
+pub constraints_rise : (row : ℕ → Constraint) (n : ℕ) → first_bad (rises_by constraint_below row) n ≡ None → Rises (λ i. (row i).id) n
 constraints_rise row n g = rises _ n (λ k l. ltb-true _ _ (rises_step constraint_below row k (first_each (rises_by constraint_below row) n g (suc k) l)))
 
-pub contracts_rise : (row : ℕ → Contract) (n : ℕ) → first_bad (rises_by contract_below row) n ≡ Good → Rises (λ i. (row i).id) n
+pub contracts_rise : (row : ℕ → Contract) (n : ℕ) → first_bad (rises_by contract_below row) n ≡ None → Rises (λ i. (row i).id) n
 contracts_rise row n g = rises _ n (λ k l. ltb-true _ _ (rises_step contract_below row k (first_each (rises_by contract_below row) n g (suc k) l)))
 
-pub units_rise : (row : ℕ → UnitRow) (n : ℕ) → first_bad (rises_by unit_below row) n ≡ Good → PairsRise (λ i. (row i).constraint) (λ i. (row i).unit) n
+pub units_rise : (row : ℕ → UnitRow) (n : ℕ) → first_bad (rises_by unit_below row) n ≡ None → PairsRise (λ i. (row i).constraint) (λ i. (row i).unit) n
 units_rise row n g = pairs_rise _ _ n (λ k l. rises_step unit_below row k (first_each (rises_by unit_below row) n g (suc k) l))
 
-pub energies_rise : (row : ℕ → EnergyRow) (n : ℕ) → first_bad (rises_by energy_below row) n ≡ Good → PairsRise (λ i. (row i).account) (λ i. (row i).region) n
+pub energies_rise : (row : ℕ → EnergyRow) (n : ℕ) → first_bad (rises_by energy_below row) n ≡ None → PairsRise (λ i. (row i).account) (λ i. (row i).region) n
 energies_rise row n g = pairs_rise _ _ n (λ k l. rises_step energy_below row k (first_each (rises_by energy_below row) n g (suc k) l))

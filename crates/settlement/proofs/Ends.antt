@@ -8,21 +8,21 @@ use lib.ListN.{length}
 use native.Mathlib.Omega.{arith}
 use Rattle.ground.specs.Inner.Put.{Wrote}
 use Rattle.sections.proofs.Cases.{zero_one}
-use Rattle.sections.specs.declared.Verdict.{Verdict}
-use Rattle.sections.specs.declared.Verdict.TheVariants.{Accepted, Refused}
+use Rattle.sections.specs.Refusal.{Verdict, unrefused, refused}
 use Rattle.book.specs.Header.{header_of}
 use Rattle.book.specs.declared.header.Header.{Header}
-use Rattle.book.specs.Book.{Book, book_in, book_of}
+use Rattle.book.specs.Book.{Book, book_of}
+use Rattle.book.specs.Laid.{book_at}
 use Rattle.book.specs.Table.{verdict}
-use Rattle.book.specs.Inner.Accepted.{SettlesTests, Promise}
-use Rattle.book.proofs.Second.{is_locked}
+use Rattle.book.specs.Inner.Accepted.{Promise}
+use Rattle.verdict.specs.declared.BothBooks.{BothBooks}
+use Rattle.verdict.specs.Accepted.{BothOf}
 use Rattle.accounts.specs.Rows.{rows_of, keep, none}
 use Rattle.accounts.specs.Account.{public_of, rows_of_account, locked_of, unknown, unnamed}
 use Rattle.accounts.specs.declared.energies.OwnEnergies.{OwnEnergies}
 use Rattle.statement.specs.Lent.{Outcome, refuses, gives, length_for, Lent}
-use Rattle.statement.specs.declared.Written.{Written}
-use Rattle.statement.specs.declared.Written.TheVariants.{Length}
-use Rattle.statement.specs.declared.Written.TheVariants as written
+use Rattle.std.specs.Prelude.{Result, Ok, Err}
+use Rattle.sections.specs.declared.Refusal.{Refusal}
 use Rattle.statement.proofs.Lent.{lent_refused, lent_short, lent_written, length_refused, length_given, refused_length, Long, long_given}
 use Rattle.statement.proofs.Lines.{statement_length}
 use Rattle.lines.specs.Limit.{any_over}
@@ -64,6 +64,10 @@ names_told B account f k = k ∙ rw f (by (none (rows_of_account B account).ener
     by false true = refl
     by false false = refl
 
+not_not : (a : Bool) → not (not a) ≡ a
+not_not true = refl
+not_not false = refl
+
 module _ (B L : Book) (account : ℕ) (p : Promise B L) {own : OwnEnergies} (f : OwnIs B L account own) where
   owned : Owned B L account own
   owned = own_of B L account p f
@@ -73,34 +77,30 @@ module _ (B L : Book) (account : ℕ) (p : Promise B L) {own : OwnEnergies} (f :
   module _ {known : Bool} (k : known ≡ not (unnamed (rows_of_account B account) (locked_of L account))) where
     unnamed_is : unnamed (rows_of_account B account) (locked_of L account) ≡ not known
     unnamed_is = sym (not_not _) ∙ ap not (sym k)
-      where
-        not_not : (a : Bool) → not (not a) ≡ a
-        not_not true = refl
-        not_not false = refl
 
-    pub size_11 : not known ≡ true → written.Refused 11 0 ≡ length_for (settled_in B L account)
-    size_11 t = length_refused 11 0 _ (settled_unknown account (public_of B) (rows_of_account B account) (locked_of L account) (unnamed_is ∙ t))
+    pub size_11 : known ≡ false → refused 11 0 ≡ length_for (settled_in B L account)
+    size_11 t = length_refused 11 0 _ (settled_unknown account (public_of B) (rows_of_account B account) (locked_of L account) (unnamed_is ∙ ap not t))
 
-    module _ (t : not known ≡ false) {over : Bool} (e : over ≡ book_over B) where
-      over_told : over ≡ any_over (lines_for B L account)
-      over_told = e ∙ over_is B p.sound L own owned.walk account ∙ ap any_over (sym owned.lines)
+    module _ (t : known ≡ true) {over : Bool} (e : over ≡ book_over B) where
+      over_told : any_over (lines_for B L account) ≡ not (not over)
+      over_told = sym (not_not over ∙ e ∙ over_is B p.sound L own owned.walk account ∙ ap any_over (sym owned.lines))
 
-      pub size_12 : over ≡ true → written.Refused 12 0 ≡ length_for (settled_in B L account)
-      size_12 o = length_refused 12 0 _ (settled_over account (public_of B) (rows_of_account B account) (locked_of L account) (unnamed_is ∙ t) (sym over_told ∙ o))
+      pub size_12 : not over ≡ false → refused 12 0 ≡ length_for (settled_in B L account)
+      size_12 o = length_refused 12 0 _ (settled_over account (public_of B) (rows_of_account B account) (locked_of L account) (unnamed_is ∙ ap not t) (over_told ∙ ap not o))
 
-      pub size_counted : over ≡ false → {n : ℕ} → ((L : Book) (own : OwnEnergies) → n ≡ 24 + length (book_lines B L account own) * 24) → Length n ≡ length_for (settled_in B L account)
+      pub size_counted : not over ≡ true → {n : ℕ} → ((L : Book) (own : OwnEnergies) → n ≡ 24 + length (book_lines B L account own) * 24) → Ok n ≡ length_for (settled_in B L account)
       size_counted o {n} c =
           let long = statement_long account (public_of B) (rows_of_account B account) (locked_of L account) in
-          length_given _ _ (settled_gives account (public_of B) (rows_of_account B account) (locked_of L account) (unnamed_is ∙ t) (sym over_told ∙ o)) n
+          length_given _ _ (settled_gives account (public_of B) (rows_of_account B account) (locked_of L account) (unnamed_is ∙ ap not t) (over_told ∙ ap not o)) n
           (omega (arith, c L own, long, ap length owned.lines))
 
   -- ---- the writing, once the length is told
 
-  module _ (l : List ℕ) {w : Written} (q : w ≡ length_for (settled_in B L account)) where
-    pub end_refused : {number place : ℕ} → w ≡ written.Refused number place → Lent (settled_in B L account) l (written.Refused number place) l
-    end_refused e = lent_refused _ _ _ l (refused_length _ _ _ (sym e ∙ q))
+  module _ (l : List ℕ) {w : Result ℕ Refusal} (q : w ≡ length_for (settled_in B L account)) where
+    pub end_refused : {r : Result ℕ Refusal} {x : Refusal} → w ≡ Err x → r ≡ Err x → Lent (settled_in B L account) l r l
+    end_refused {x = x} e f = rw f (lent_refused x.number x.place _ l (refused_length _ x.number x.place (sym e ∙ q)))
 
-    module _ {n : ℕ} (e : w ≡ Length n) where
+    module _ {n : ℕ} (e : w ≡ Ok n) where
       told : Long (settled_in B L account) n
       told = long_given _ n (sym e ∙ q)
 
@@ -116,7 +116,7 @@ module _ (B L : Book) (account : ℕ) (p : Promise B L) {own : OwnEnergies} (f :
       unfolding whole_of
       long_is = told.long ∙ ap length bytes_are ∙ statement_length (heading_in account B (length (book_lines B L account own))) (book_lines B L account own)
 
-      pub end_13 : length l < n → Lent (settled_in B L account) l (written.Refused 13 0) l
+      pub end_13 : length l < n → Lent (settled_in B L account) l (refused 13 0) l
       end_13 h = lent_short _ told.bytes told.given l (omega (arith, told.long))
 
       pub walk_of : Walkable B L own
@@ -125,25 +125,25 @@ module _ (B L : Book) (account : ℕ) (p : Promise B L) {own : OwnEnergies} (f :
       pub fits_in : n ≤ length l → Fits (book_lines B L account own) (length l)
       fits_in h = record { few = owned.few; room = omega (arith, long_is) }
 
-      pub end_written : n ≤ length l → {b : List ℕ} {m : ℕ} → Wrote l 0 (whole_of account B L own) b m → Lent (settled_in B L account) l (Length m) b
+      pub end_written : n ≤ length l → {b : List ℕ} {m : ℕ} → Wrote l 0 (whole_of account B L own) b m → Lent (settled_in B L account) l (Ok m) b
       end_written h w =
           lent_written _ (whole_of account B L own) (told.given ∙ ap gives bytes_are) l _ (omega (arith, w.next))
           (omega (arith, told.long, ap length bytes_are)) w.bytes
 
 -- ---- the book's verdict
 
-pub outcome_refused : (b l : List ℕ) (account : ℕ) {number place : ℕ} → verdict b l ≡ Refused number place → outcome b l account ≡ refuses number place
+pub outcome_refused : (b l : List ℕ) (account : ℕ) {x : Refusal} → verdict b l ≡ Err x → outcome b l account ≡ refuses x.number x.place
 unfolding outcome outcome_if
 outcome_refused b l account e = rw e
 
--- s is the book that test payments are settled by
-module _ (b l : List ℕ) (account : ℕ) {v : Verdict} (q : v ≡ verdict b l) (e : v ≡ Accepted) {h : Header} (i : h ≡ header_of b) {s : List ℕ} (t : SettlesTests b h l s) where
-  outcome_settled : settled_in (book_in b h) (book_of s) account ≡ outcome b l account
+-- x has the two books that were accepted
+module _ (b l : List ℕ) (account : ℕ) {x : BothBooks} (t : BothOf b l x) where
+  outcome_settled : settled_in (book_at x.book) (book_at x.second) account ≡ outcome b l account
   unfolding outcome outcome_if
-  outcome_settled = rw (sym q ∙ e, i, is_locked b l q e i t)
+  outcome_settled = rw (t.unrefused, t.header, t.book, t.second_header, t.second)
 
-  pub size_settled : {r : Written} → r ≡ length_for (settled_in (book_in b h) (book_of s) account) → r ≡ length_for (outcome b l account)
+  pub size_settled : {r : Result ℕ Refusal} → r ≡ length_for (settled_in (book_at x.book) (book_at x.second) account) → r ≡ length_for (outcome b l account)
   size_settled w = w ∙ ap length_for outcome_settled
 
-  pub end_settled : {x : List ℕ} {r : Written} {d : List ℕ} → Lent (settled_in (book_in b h) (book_of s) account) x r d → Lent (outcome b l account) x r d
-  end_settled {x} {r} {d} w = subst (λ (o : Outcome). Lent o x r d) outcome_settled w
+  pub end_settled : {y : List ℕ} {r : Result ℕ Refusal} {d : List ℕ} → Lent (settled_in (book_at x.book) (book_at x.second) account) y r d → Lent (outcome b l account) y r d
+  end_settled {y} {r} {d} w = subst (λ (o : Outcome). Lent o y r d) outcome_settled w

@@ -2,6 +2,7 @@
 -- limit. Assumes nothing.
 use Prim.Native.Nat.{ℕ, ◌≤◌, ◌<◌}
 use mathlib.Core.Path.{◌≡◌, refl, sym, ap, subst, ◌∙◌}
+use mathlib.Core.Bool.{Bool}
 use mathlib.Core.List.{List, [], ◌∷◌}
 use lib.ListN.{length}
 use Rattle.ground.specs.Units.{most_lines}
@@ -14,7 +15,6 @@ use Rattle.book.specs.Book.{Book}
 use Rattle.book.specs.Inner.Accepted.{AtMostEntry, Sound, Promise}
 use Rattle.accounts.specs.Account.{rows_of_account, own_energy}
 use Rattle.accounts.specs.Inner.Held.{HeldIs}
-use Rattle.accounts.specs.declared.Held.{Held}
 use Rattle.accounts.specs.declared.energies.OwnEnergies.{OwnEnergies}
 use Rattle.accounts.proofs.Own.{own_within, held_own}
 use Rattle.lines.specs.Inner.Walks.{book_lines, Walkable}
@@ -23,7 +23,7 @@ use Rattle.lines.proofs.Limit.{book_within}
 use Rattle.whole.proofs.Given.{Within, walkable_of}
 use Rattle.whole.proofs.Lengths.{few_of}
 use Rattle.settlement.specs.Settle.{lines_for}
-use Rattle.settlement.specs.Inner.Own.{OwnIs}
+use Rattle.settlement.specs.Inner.Own.{OwnIn, OwnIs}
 use Rattle.settlement.proofs.Link.{lines_link}
 
 -- ---- its own energies
@@ -50,14 +50,14 @@ module _ (B L : Book) (account : ℕ) where
   pub own_there_lem : OwnIs B L account own_there
   own_there_lem = record { current = totals_are (rows_of_account B account).energies; locked = totals_are (rows_of_account L account).energies }
 
-  module _ {here : Held} (f : HeldIs B.energy B.header.energies account here) where
+  module _ {here : Totals} (f : OwnIn B account here) where
     -- as found in both
-    pub own_found : {there : Held} → HeldIs L.energy L.header.energies account there → OwnIs B L account (record { current = here.own; locked = there.own })
-    own_found g = record { current = held_own B f; locked = held_own L g }
+    pub own_found : {there : Totals} {found : Bool} → HeldIs L.energy L.header.energies account there found → OwnIs B L account (record { current = here; locked = there })
+    own_found g = record { current = f; locked = held_own L g }
 
     -- as found in the one, which is the other too
-    pub own_alone : L ≡ B → OwnIs B L account (record { current = here.own; locked = here.own })
-    own_alone e = record { current = held_own B f; locked = λ g l. held_own B f g l ∙ ap (λ (X : Book). own_energy (rows_of_account X account).energies g) (sym e) }
+    pub own_alone : L ≡ B → OwnIs B L account (record { current = here; locked = here })
+    own_alone e = record { current = f; locked = λ g l. f g l ∙ ap (λ (X : Book). own_energy (rows_of_account X account).energies g) (sym e) }
 
 -- ---- its lines
 

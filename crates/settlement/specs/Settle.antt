@@ -1,8 +1,7 @@
 -- The statement of an account. It takes three things only: the public part of a book, the account's own rows, and, of the book that test payments
 -- are settled by, the region totals and the account's own rows. 01, The amounts, The statement; 02, Req 04.
-use Rattle.std.specs.Prelude.{ℕ, zero, suc, cond, List, [], ◌∷◌, ◌++◌, eqb, length}
-use Rattle.sections.specs.declared.Verdict.{Verdict}
-use Rattle.sections.specs.declared.Verdict.TheVariants.{Accepted, Refused}
+use Rattle.std.specs.Prelude.{Ok, Err, ℕ, zero, suc, cond, List, [], ◌∷◌, ◌++◌, eqb, length}
+use Rattle.sections.specs.Refusal.{Verdict}
 use Rattle.records.specs.declared.rows.Entry.{Entry}
 use Rattle.records.specs.declared.rows.Constraint.{Constraint}
 use Rattle.records.specs.declared.rows.UnitRow.{UnitRow}
@@ -81,8 +80,8 @@ lines_for B L account = lines_of (public_of B) (rows_of_account B account) (lock
 
 -- "Numbers 1 to 10 come from every call on a book." And so do 17 and 18.
 unfoldable pub outcome_if : Verdict → Outcome → Outcome
-outcome_if Accepted o = o
-outcome_if (Refused number place) o = refuses number place
+outcome_if (Ok _) o = o
+outcome_if (Err e) o = refuses e.number e.place
 
 -- of the book b, with l lent as the locked one
 unfoldable pub outcome : List ℕ → List ℕ → ℕ → Outcome

@@ -4,22 +4,19 @@
 ghost use Rattle.std.specs.Prelude.{◌≡◌, not, ◌||◌, ◌*◌, ◌≤◌, length, eqb};
 ghost use Rattle.records.specs.Rows.{unit_row};
 ghost use Rattle.book.specs.Header.{header_of};
-ghost use Rattle.book.specs.Book.{book_in, book_of};
-ghost use Rattle.book.specs.Inner.Facts.{Laid};
+ghost use Rattle.book.specs.Laid.{book_at};
 ghost use Rattle.book.specs.Inner.Accepted.{Sound, StandsIn, Promise};
 ghost use Rattle.accounts.specs.Rows.{rows_of, keep, none};
 ghost use Rattle.accounts.specs.Account.{rows_of_account, locked_of, unknown, unnamed};
 ghost use Rattle.accounts.specs.Inner.Held.{HeldIs};
 ghost use Rattle.statement.specs.Lent.{Lent, length_for};
 ghost use Rattle.settlement.specs.Settle.{settled_in, outcome};
-ghost use Rattle.settlement.specs.Inner.Own.{OwnIs};
+ghost use Rattle.settlement.specs.Inner.Own.{OwnIn, OwnIs};
 
-use accounts::energies::OwnEnergies;
-use accounts::{Held, energies};
-use book::header;
-use book::header::Header;
-use sections::{Checked, Verdict};
-use statement::Written;
+use accounts::energies::{BookEnergies, OwnEnergies};
+use book::laid::LaidBook;
+use sections::Refusal;
+use totals::entries::Totals;
 
 // Whether a row names the account, where it is known whether an energy row does. The unit rows are asked only where none does.
 fn is_known(units: &[u8], m: usize, held: bool, account: u32) -> bool
@@ -32,130 +29,116 @@ fn is_known(units: &[u8], m: usize, held: bool, account: u32) -> bool
     accounts::has_units(units, m, account)
 }
 
-// What the account has by the energy rows of a book.
-pub fn held_by(book: &[u8], h: Header, account: u32) -> Held
-    requires laid { Laid book.now h }
-    requires sound { Sound (book_in book.now h) }
-    ensures { HeldIs (book_in book.now h).energy h.energies account result }
+// What the account has by the energy rows of a book, put where it is lent; and whether one of them names it.
+pub fn held_by(book: &LaidBook, account: u32, own: &mut Totals) -> bool
+    requires { Sound (book_at book.now) }
+    ensures { HeldIs (book_at book.now).energy book.now.header.energies account own.new result }
 {
-    accounts::own_energy(&book[24..], energies::part_of(h), account)
+    accounts::own_energy(BookEnergies::of(book), account, own)
 }
 
 // Whether a row of a book names the account.
-fn names(book: &[u8], h: Header, held: bool, account: u32) -> bool
-    requires laid { Laid book.now h }
-    requires held_value { held ≡ not (none (keep (λ r. eqb r.account account) (rows_of (book_in book.now h).energy h.energies))) }
-    ensures { result ≡ not (unknown (rows_of_account (book_in book.now h) account)) }
+fn names(book: &LaidBook, held: bool, account: u32) -> bool
+    requires { held ≡ not (none (keep (λ r. eqb r.account account) (rows_of (book_at book.now).energy book.now.header.energies))) }
+    ensures { result ≡ not (unknown (rows_of_account (book_at book.now) account)) }
 {
-    let units = h.units_at();
-    is_known(&book[units..], h.units as usize, held, account)
+    is_known(book.units(), book.header.units as usize, held, account)
 }
 
 // Whether a row of either book names the account, where it is known whether an energy row of the first does. The second book's are asked only
 // where the first's do not.
-fn is_named(book: &[u8], h: Header, held: bool, locked: &[u8], account: u32) -> bool
-    requires laid { Laid book.now h × Laid locked.now (header_of locked.now) }
-    requires sound { Sound (book_of locked.now) }
-    requires held_value { held ≡ not (none (keep (λ r. eqb r.account account) (rows_of (book_in book.now h).energy h.energies))) }
-    ensures { result ≡ not (unnamed (rows_of_account (book_in book.now h) account) (locked_of (book_of locked.now) account)) }
+fn is_named(book: &LaidBook, held: bool, second: &LaidBook, account: u32) -> bool
+    requires sound { Sound (book_at second.now) }
+    requires held_value { held ≡ not (none (keep (λ r. eqb r.account account) (rows_of (book_at book.now).energy book.now.header.energies))) }
+    ensures { result ≡ not (unnamed (rows_of_account (book_at book.now) account) (locked_of (book_at second.now) account)) }
 {
-    if names(book, h, held, account) {
+    if names(book, held, account) {
         return true;
     }
-    let l = header::header_of(locked);
-    let there = held_by(locked, l, account);
-    names(locked, l, there.any, account)
+    let mut there = Totals::NONE;
+    let held_there = held_by(second, account, &mut there);
+    names(second, held_there, account)
 }
 
-// The account's own energies in the book, where they are known, and in the one that test payments are settled by. Where there are none of those
-// that is the book itself.
-fn own_in_both(book: &[u8], h: Header, held: Held, locked: &[u8], account: u32) -> OwnEnergies
-    requires laid { (Laid book.now h × (h ≡ header_of book.now)) × Laid locked.now (header_of locked.now) }
-    requires stands_in { StandsIn book.now h locked.now × Sound (book_of locked.now) }
-    requires held_is { HeldIs (book_in book.now h).energy h.energies account held }
-    ensures { OwnIs (book_in book.now h) (book_of locked.now) account result }
+// The account's own energies in the second book, beside those in the first. Where no contract is a test payment the second book is the first.
+fn own_in_second(book: &LaidBook, second: &LaidBook, account: u32, own: &mut OwnEnergies)
+    requires headed { (book.now.header ≡ header_of book.now.bytes.now) × (second.now.header ≡ header_of second.now.bytes.now) }
+    requires stands_in { StandsIn book.now.bytes.now book.now.header second.now.bytes.now × Sound (book_at second.now) }
+    requires own_in { OwnIn (book_at book.now) account own.old.current }
+    ensures { OwnIs (book_at book.now) (book_at second.now) account own.new }
 {
-    let current = held.own;
-    let paid = h.contracts_at();
-    match locking::first_test(&book[paid..], h.contracts as usize) {
-        Checked::Good => OwnEnergies {
-            current,
-            locked: current,
-        },
-        Checked::Bad(_) => {
-            let there = held_by(locked, header::header_of(locked), account);
-            let before = there.own;
-            OwnEnergies {
-                current,
-                locked: before,
-            }
+    match locking::first_test(book.contracts(), book.header.contracts as usize) {
+        None => {
+            own.locked = own.current;
+        }
+        Some(_) => {
+            held_by(second, account, &mut own.locked);
         }
     }
 }
 
-// The length of the statement of an accepted book: 11, then 12, then the lines counted. None of them needs a buffer.
-pub fn sized(book: &[u8], h: Header, held: Held, locked: &[u8], account: u32) -> Written
-    requires laid { Laid book.now h × Laid locked.now (header_of locked.now) }
-    requires promise { Promise (book_in book.now h) (book_of locked.now) }
-    requires held_is { HeldIs (book_in book.now h).energy h.energies account held }
-    ensures { result ≡ length_for (settled_in (book_in book.now h) (book_of locked.now) account) }
+// The length of the statement of an accepted book, where it is known whether an energy row names the account: 11, then 12, then the lines
+// counted. None of them needs a buffer.
+pub fn sized(book: &LaidBook, held: bool, second: &LaidBook, account: u32) -> Result<usize, Refusal>
+    requires promise { Promise (book_at book.now) (book_at second.now) }
+    requires held_value { held ≡ not (none (keep (λ r. eqb r.account account) (rows_of (book_at book.now).energy book.now.header.energies))) }
+    ensures { result ≡ length_for (settled_in (book_at book.now) (book_at second.now) account) }
 {
-    if !is_named(book, h, held.any, locked, account) {
-        return Written::Refused(11, 0);
-    }
-    if limit::passed(book, h) {
-        return Written::Refused(12, 0);
-    }
-    Written::Length(whole::length_of(book, h, account))
+    sections::unless(is_named(book, held, second, account), 11)?;
+    sections::unless(!limit::passed(book), 12)?;
+    Ok(whole::length_of(book, account))
 }
 
 // The statement of an accepted book: what its length is refused for, then 13, before the first byte is written.
-fn settle<'a>(
-    book: &'a [u8],
-    h: Header,
-    locked: &'a [u8],
+// Not inlined, so that the checks run before there is room for the account's energies on the stack.
+#[inline(never)]
+fn settle(
+    book: &LaidBook,
+    second: &LaidBook,
     account: u32,
     buffer: &mut [u8],
-) -> Written
-    requires laid { (Laid book.now h × (h ≡ header_of book.now)) × Laid locked.now (header_of locked.now) }
-    requires promise { Promise (book_in book.now h) (book_of locked.now) × StandsIn book.now h locked.now }
-    ensures { Lent (settled_in (book_in book.now h) (book_of locked.now) account) buffer.old result buffer.new }
+) -> Result<usize, Refusal>
+    requires headed { (book.now.header ≡ header_of book.now.bytes.now) × (second.now.header ≡ header_of second.now.bytes.now) }
+    requires promise { Promise (book_at book.now) (book_at second.now) × StandsIn book.now.bytes.now book.now.header second.now.bytes.now }
+    ensures { Lent (settled_in (book_at book.now) (book_at second.now) account) buffer.old result buffer.new }
 {
-    let held = held_by(book, h, account);
-    match sized(book, h, held, locked, account) {
-        Written::Length(n) => {
-            if buffer.len() < n {
-                return Written::Refused(13, 0);
-            }
-            let own = own_in_both(book, h, held, locked, account);
-            Written::Length(whole::write(buffer, book, h, locked, own, account))
-        }
-        Written::Refused(number, place) => Written::Refused(number, place),
-    }
+    let mut own = OwnEnergies::NONE;
+    let held = held_by(book, account, &mut own.current);
+    let n = sized(book, held, second, account)?;
+    sections::unless(n <= buffer.len(), 13)?;
+    own_in_second(book, second, account, &mut own);
+    Ok(whole::write(buffer, book, second.bytes, &own, account))
+}
+
+// How long the statement of an account of an accepted book is.
+// Not inlined, so that the checks run before there is room for the account's energies on the stack.
+#[inline(never)]
+fn measure(book: &LaidBook, second: &LaidBook, account: u32) -> Result<usize, Refusal>
+    requires { Promise (book_at book.now) (book_at second.now) }
+    ensures { result ≡ length_for (settled_in (book_at book.now) (book_at second.now) account) }
+{
+    let mut own = Totals::NONE;
+    let held = held_by(book, account, &mut own);
+    sized(book, held, second, account)
 }
 
 // How long the statement of any account from any bytes is, whatever is lent as the locked book.
-pub fn length<'a>(book: &'a [u8], locked: &'a [u8], account: u32) -> Written
+pub fn length<'a>(book: &'a [u8], locked: &'a [u8], account: u32) -> Result<usize, Refusal>
     ensures { result ≡ length_for (outcome book.now locked.now account) }
 {
-    match verdict::check(book, locked) {
-        Verdict::Accepted => {
-            let h = header::header_of(book);
-            let second = verdict::settles_tests(book, h, locked);
-            sized(book, h, held_by(book, h, account), second, account)
-        }
-        Verdict::Refused(number, place) => Written::Refused(number, place),
-    }
+    let both = verdict::accepted(book, locked)?; // no buffer is lent, and so there is no 13
+    measure(&both.book, &both.second, account)
 }
 
 // The statement of any account from any bytes, into any buffer.
-pub fn statement<'a>(book: &'a [u8], locked: &'a [u8], account: u32, buffer: &mut [u8]) -> Written
+pub fn statement<'a>(
+    book: &'a [u8],
+    locked: &'a [u8],
+    account: u32,
+    buffer: &mut [u8],
+) -> Result<usize, Refusal>
     ensures { Lent (outcome book.now locked.now account) buffer.old result buffer.new }
 {
-    if let Verdict::Refused(number, place) = verdict::check(book, locked) {
-        return Written::Refused(number, place);
-    }
-    let h = header::header_of(book);
-    let second = verdict::settles_tests(book, h, locked);
-    settle(book, h, second, account, buffer)
+    let both = verdict::accepted(book, locked)?; // before the buffer is looked at
+    settle(&both.book, &both.second, account, buffer)
 }

@@ -1,16 +1,17 @@
 -- Energy rows account by account: an account's rows stand side by side, so that its share is made as they pass. Assumes nothing.
-use Prim.Native.Nat.{ℕ, zero, suc, ◌+◌, ◌*◌, ◌≤◌, ◌<◌, ◌^◌}
+use Prim.Native.Nat.{ℕ, zero, suc, ◌+◌, ◌*◌, ◌≤◌, ◌<◌}
 use mathlib.Core.Path.{◌≡◌, refl, ap, ◌∙◌, sym}
-use mathlib.Core.List.{[], ◌∷◌}
+use mathlib.Core.List.{List, [], ◌∷◌}
 use mathlib.Core.Bool.{Bool, true, false, cond}
 use mathlib.Core.Logic.{⊎_elim}
 use native.Mathlib.Omega.{arith}
 use native.Mathlib.Nat.{eq-or-lt_of_le, not-suc-le-zero, le_of_suc-le-suc, le_refl, le_trans, le_of_eq, mul-le-mul, add_comm, one-mul, zero-mul}
-use borrow.Author.Tests.{eq-eqb}
+use borrow.Author.Tests.{eq-eqb, eqb-true, eqb-false}
 use mir.Val.{bool_byte}
 use lib.IntN.{ℤ, pos, nat_abs, ◌+ℤ◌, +ℤ_comm}
-use Rattle.numbers.specs.Round.{Rounds}
-use Rattle.numbers.specs.declared.round.Rounded.{Rounded}
+use lib.Dec.{eqb}
+use lib.ListN.{length}
+use Rattle.numbers.specs.Round.{round_n, cut_n}
 use Rattle.numbers.proofs.Rounding.{round_share, cut_half}
 use Rattle.sections.specs.Total.{total, keyed}
 use Rattle.sections.specs.Inner.Walk.{Stands, Past}
@@ -27,12 +28,13 @@ use Rattle.sharing.specs.Once.{has, join_new, named}
 use Rattle.sharing.specs.Inner.Seen.{seen}
 use Rattle.sharing.specs.Accounts.{energy_account}
 use Rattle.sharing.specs.Inner.Shares.{energy_in, own_in_part, share_in, part_sum, cut_in, part_cut, Sorted, Shareable}
-use Rattle.sharing.specs.Inner.Groups.{GroupIs}
+use Rattle.sharing.specs.Inner.Groups.{GroupIs, Made, Adds, MadeOver}
 use Rattle.sharing.specs.declared.shares.Group.{Group}
 use Rattle.sharing.specs.declared.shares.Part.{Part}
 use Rattle.sharing.proofs.Sums.{sum_bound, signed_halves}
 use Rattle.sharing.proofs.Once.{seen_none, has_named, length_named}
 use Rattle.sharing.proofs.InOrder.{in_order}
+use Rattle.sharing.proofs.Everyone.{nothing_shared, nothing_cut}
 
 -- ---- energy
 
@@ -65,10 +67,6 @@ module _ (p : Part) (energy : ℕ → EnergyRow) (n : ℕ) where
       le_trans
       (total_under _ _ n (λ k l. keyed_le (energy_account energy) a counted (counted k) k (le_refl (counted k))))
       (le_of_eq (sym h.whole))
-
-  -- nor does a group
-  pub own_fits : {i : ℕ} {g : Group} → Shareable p energy n → GroupIs p energy n i g → g.own ≤ p.whole
-  own_fits {i} h g = rw g.own (own_small h (energy i).account)
 
   -- so that its share is no more than the amount
   pub share_small : Shareable p energy n → (a : ℕ) → share_in p energy n a ≤ p.amount
@@ -168,71 +166,93 @@ module _ (p : Part) (energy : ℕ → EnergyRow) (n : ℕ) where
         let name = energy_account energy in
         names_run name i g.end (group_moves b l) (λ k a j. omega (arith, b.behind.under k j, t.over k a (omega (arith, b.behind.high)))) (seen_none name i (name i) (λ k j z. omega (arith, t.under k j)))
 
+  -- ---- what is made of them, a call for each
+
+  module _ {T : Type 0} (post : T → ℕ → T → Type 0) (start : T) where
+    -- x is made of the accounts whose rows come before row i
+    pub record Making (i : ℕ) (x : T) : Type 0 where
+      pub rows : Accounts i
+      pub made : Made post (own_in_part p energy n) start (named (energy_account energy) i []) x
+
+    pub making_start : Sorted energy n → Making 0 start
+    unfolding named Made
+    making_start s = record { rows = none_yet s; made = refl }
+
+    -- the account of row i can be told
+    pub making_calls : (pre : T → ℕ → Type 0) {i : ℕ} {x : T} {g : Group} → Sorted energy n → Adds p energy n pre post start → Making i x → i < n → GroupIs p energy n i g → pre x g.own
+    making_calls pre {i} {x} {g} s a h l b =
+        let few = s.few in
+        rw b.own (a (named (energy_account energy) i []) (energy i).account x (omega (arith, length_named (energy_account energy) i [])) h.made)
+
+    -- y is what was made with it
+    pub making_more : {i : ℕ} {x y : T} {g : Group} → Sorted energy n → Making i x → i < n → GroupIs p energy n i g → post x g.own y → Making g.end y
+    unfolding Made
+    making_more {i} {x} {y} {g} s h l b q =
+        record { rows = one_more s h.rows l b; made = rw (name_more s h.rows l b) (x, (h.made, rw b.own at q)) }
+
+    pub making_end : {i : ℕ} {x : T} → (p.amount ≡ 0 → ⊥) → Making i x → i ≡ n → MadeOver p energy n post start x
+    making_end {i} {x} d h e =
+        record { nothing = λ z. absurd (d z); every = λ z. rw e at h.made }
+
+    pub making_none : p.amount ≡ 0 → MadeOver p energy n post start start
+    making_none e = record { nothing = λ z. refl; every = λ d. absurd (d e) }
+
   -- ---- their shares, summed
 
-  pub record Passed (i x : ℕ) : Type 0 where
-    pub rows : Accounts i
-    pub sum : x ≡ sum_of (share_in p energy n) (named (energy_account energy) i [])
-
-  pub pass_start : Sorted energy n → Passed 0 0
-  unfolding named sum_of
-  pass_start s = record { rows = none_yet s; sum = refl }
-
-  -- r is the share of the account of row i
-  pub pass_more : {i x : ℕ} {r : Rounded} {g : Group} → Sorted energy n → Passed i x → i < n → GroupIs p energy n i g → Rounds (p.amount * g.own) p.whole r → Passed g.end (x + r.whole)
-  unfolding sum_of share_in
-  pass_more s h l b q =
-      record { rows = one_more s h.rows l b; sum = rw (name_more s h.rows l b, q.whole, b.own, h.sum) (add_comm _ _) }
-
-  pub pass_end : {i x : ℕ} → Passed i x → i ≡ n → x ≡ part_sum p energy n
-  unfolding part_sum
-  pass_end h e = h.sum ∙ ap (λ (k : ℕ). sum_of (share_in p energy n) (named (energy_account energy) k [])) e
-
   -- at most 1,024 shares of at most the amount
-  few_shares : Sorted energy n → Shareable p energy n → (i : ℕ) → i ≤ n → sum_of (share_in p energy n) (named (energy_account energy) i []) ≤ 1024 * p.amount
-  few_shares s h i l =
-      let few = s.few in
-      le_trans
-      (sum_bound (share_in p energy n) p.amount (named (energy_account energy) i []) (share_small p energy n h))
-      (mul-le-mul (omega (arith, length_named (energy_account energy) i [])) (le_refl p.amount))
+  few_shares : Shareable p energy n → (l : List ℕ) → length l ≤ 1024 → sum_of (share_in p energy n) l ≤ 51_200_000_000_000
+  few_shares h l few =
+      omega (arith, h.small, le_trans (sum_bound (share_in p energy n) p.amount l (share_small p energy n h)) (mul-le-mul few (le_refl p.amount)))
 
-  pub pass_small : {i x : ℕ} → Sorted energy n → Shareable p energy n → Passed i x → x ≤ 51_200_000_000_000
-  pass_small {i} {x} s h g = rw g.sum (omega (arith, few_shares s h i g.rows.within, h.small))
+  module _ (h : Shareable p energy n) {post : ℕ → ℕ → ℕ → Type 0} (adds : (x own y : ℕ) → own ≤ p.whole → post x own y → y ≡ x + round_n (p.amount * own) p.whole) where
+    sum_made : (l : List ℕ) {x : ℕ} → Made post (own_in_part p energy n) 0 l x → x ≡ sum_of (share_in p energy n) l
+    unfolding Made sum_of share_in
+    sum_made [] e = e
+    sum_made (a ∷ l) {x} (y, (m, q)) = adds y (own_in_part p energy n a) x (own_small p energy n h a) q ∙ rw (sum_made l m) (add_comm _ _)
+
+    -- before the call of one account more
+    pub sum_room : (l : List ℕ) (x : ℕ) → length l < 1024 → Made post (own_in_part p energy n) 0 l x → x ≤ 51_200_000_000_000
+    sum_room l x few m = rw (sum_made l m) (few_shares h l (omega arith))
+
+    pub sum_over : Sorted energy n → {x : ℕ} → MadeOver p energy n post 0 x → (x ≡ part_sum p energy n) × (x ≤ 51_200_000_000_000)
+    unfolding part_sum
+    sum_over s {x} m = by (eqb p.amount 0) refl
+      where
+        by : (t : Bool) → eqb p.amount 0 ≡ t → (x ≡ part_sum p energy n) × (x ≤ 51_200_000_000_000)
+        by true e =
+            let z = eqb-true p.amount 0 e in
+            (m.nothing z ∙ sym (nothing_shared p energy n z), rw (m.nothing z) (omega arith))
+        by false e =
+            let few = s.few in
+            let told = sum_made (named (energy_account energy) n []) (m.every (eqb-false p.amount 0 e)) in
+            (told, rw told (few_shares h (named (energy_account energy) n []) (omega (arith, length_named (energy_account energy) n []))))
 
   -- ---- what was cut off them, summed
 
-  pub record CutTo (i : ℕ) (x : ℤ) : Type 0 where
-    pub rows : Accounts i
-    pub cut : x ≡ sum_z (cut_in p energy n) (named (energy_account energy) i [])
-
-  pub cut_start : Sorted energy n → CutTo 0 (pos 0)
-  unfolding named sum_z
-  cut_start s = record { rows = none_yet s; cut = refl }
-
-  -- y has what the share r of the account of row i cut off, too
-  pub cut_more : {i : ℕ} {x y : ℤ} {r : Rounded} {g : Group} → Sorted energy n → CutTo i x → i < n → GroupIs p energy n i g → Rounds (p.amount * g.own) p.whole r → y ≡ x +ℤ r.cut → CutTo g.end y
-  unfolding sum_z cut_in
-  cut_more {i} s h l b q e =
-      record {
-        rows = one_more s h.rows l b;
-        cut =
-            e
-            ∙ rw (name_more s h.rows l b, q.cut, b.own, h.cut)
-            (+ℤ_comm (sum_z (cut_in p energy n) (named (energy_account energy) i [])) (cut_in p energy n (energy_account energy i)));
-      }
-
   -- each cuts off at most half of the whole
-  few_cuts : Sorted energy n → Shareable p energy n → (i : ℕ) → i ≤ n → nat_abs (sum_z (cut_in p energy n) (named (energy_account energy) i [])) ≤ 51_200_000_000
+  few_cuts : Shareable p energy n → (l : List ℕ) → length l ≤ 1024 → nat_abs (sum_z (cut_in p energy n) l) ≤ 51_200_000_000
   unfolding cut_in
-  few_cuts s h i l =
-      omega (arith, signed_halves (cut_in p energy n) 100_000_000 (named (energy_account energy) i []) (λ a. le_trans (cut_half (p.amount * own_in_part p energy n a) p.whole h.above) h.below), length_named (energy_account energy) i [], s.few)
+  few_cuts h l few =
+      omega (arith, signed_halves (cut_in p energy n) 100_000_000 l (λ a. le_trans (cut_half (p.amount * own_in_part p energy n a) p.whole h.above) h.below), few)
 
-  -- r is a share: what it cut off fits into the sum
-  pub cut_room : (own : ℕ) {i : ℕ} {x : ℤ} {r : Rounded} → Sorted energy n → Shareable p energy n → CutTo i x → Rounds (p.amount * own) p.whole r → nat_abs x + nat_abs r.cut < 2 ^ 63
-  cut_room own {i} s h g q =
-      omega (arith, ap nat_abs g.cut, few_cuts s h i g.rows.within, ap nat_abs q.cut, cut_half (p.amount * own) p.whole h.above, h.below)
+  module _ (h : Shareable p energy n) {post : ℤ → ℕ → ℤ → Type 0} (adds : (x : ℤ) (own : ℕ) (y : ℤ) → own ≤ p.whole → post x own y → y ≡ x +ℤ cut_n (p.amount * own) p.whole) where
+    cut_made : (l : List ℕ) {x : ℤ} → Made post (own_in_part p energy n) (pos 0) l x → x ≡ sum_z (cut_in p energy n) l
+    unfolding Made sum_z cut_in
+    cut_made [] e = e
+    cut_made (a ∷ l) {x} (y, (m, q)) = adds y (own_in_part p energy n a) x (own_small p energy n h a) q ∙ rw (cut_made l m) (+ℤ_comm (sum_z (cut_in p energy n) l) (cut_n (p.amount * own_in_part p energy n a) p.whole))
 
-  pub cut_end : {i : ℕ} {x : ℤ} → Sorted energy n → Shareable p energy n → CutTo i x → i ≡ n → (x ≡ part_cut p energy n) × (nat_abs x ≤ 51_200_000_000)
-  unfolding part_cut
-  cut_end {i} s h g e =
-      (g.cut ∙ ap (λ (k : ℕ). sum_z (cut_in p energy n) (named (energy_account energy) k [])) e, rw g.cut (few_cuts s h i g.rows.within))
+    pub cut_room : (l : List ℕ) (x : ℤ) → length l < 1024 → Made post (own_in_part p energy n) (pos 0) l x → nat_abs x ≤ 51_200_000_000
+    cut_room l x few m = rw (cut_made l m) (few_cuts h l (omega arith))
+
+    pub cut_over : Sorted energy n → {x : ℤ} → MadeOver p energy n post (pos 0) x → (x ≡ part_cut p energy n) × (nat_abs x ≤ 51_200_000_000)
+    unfolding part_cut
+    cut_over s {x} m = by (eqb p.amount 0) refl
+      where
+        by : (t : Bool) → eqb p.amount 0 ≡ t → (x ≡ part_cut p energy n) × (nat_abs x ≤ 51_200_000_000)
+        by true e =
+            let z = eqb-true p.amount 0 e in
+            (m.nothing z ∙ sym (nothing_cut p energy n z), rw (m.nothing z) (omega arith))
+        by false e =
+            let few = s.few in
+            let told = cut_made (named (energy_account energy) n []) (m.every (eqb-false p.amount 0 e)) in
+            (told, rw told (few_cuts h (named (energy_account energy) n []) (omega (arith, length_named (energy_account energy) n []))))

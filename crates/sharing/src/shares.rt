@@ -3,10 +3,11 @@ ghost use Rattle.std.specs.Prelude.{◌≡◌, ◌*◌, ◌≤◌, ◌<◌, nat_
 ghost use Rattle.sections.specs.Inner.Walk.{Stands};
 ghost use Rattle.rules.specs.Inner.Facts.{EnergyRule};
 ghost use Rattle.records.specs.Rows.{energy_row};
-ghost use Rattle.sharing.specs.Inner.Groups.{GroupIs};
+ghost use Rattle.sharing.specs.Inner.Groups.{GroupIs, Adds, MadeOver};
 ghost use Rattle.sharing.specs.Accounts.{energy_account};
 ghost use Rattle.sharing.specs.Inner.Shares.{energy_in, part_sum, part_cut, Sorted, Shareable};
 
+use amounts::shares;
 use market::{Basis, Region};
 use numbers::sign;
 use records::rows;
@@ -48,59 +49,67 @@ fn gather(energy: &[u8], n: usize, from: usize, p: Part) -> Group
 {
     let account = rows::energy_row(energy, from).account;
     let mut own: u64 = 0;
-    let mut j = from;
-    while j < n {
+    for j in from..n {
         let r = rows::energy_row(energy, j);
         if r.account != account {
             return Group { own, end: j };
         }
         own += energy_in(p, r);
-        j += 1;
     }
-    Group { own, end: j }
+    Group { own, end: n }
 }
 
-// The rounded shares of all accounts, summed. The energy rows are sorted by account, so each share is made as the rows pass.
+// What a function makes of a value, called once for each account with what the account owns. The energy rows are sorted by account, so that one pass
+// has each account's rows side by side.
+fn over_accounts<T: Copy, F: Fn(T, u64) -> T>(
+    energy: &[u8],
+    n: usize,
+    p: Part,
+    start: T,
+    add: F,
+) -> T
+    requires n_in_bounds { n * 24 ≤ length energy.now }
+    requires sorted { Sorted (energy_row energy.now) n }
+    requires shareable { Shareable p (energy_row energy.now) n }
+    requires adds { Adds p (energy_row energy.now) n (F.pre add) (F.post add) start }
+    ensures { MadeOver p (energy_row energy.now) n (F.post add) start result }
+{
+    // A pool of 0 needs no pass.
+    if p.amount == 0 {
+        return start;
+    }
+    let mut made = start;
+    let mut i = 0;
+    // An account's rows at a turn: the next one begins behind them.
+    while i < n {
+        let g = gather(energy, n, i, p);
+        made = add(made, g.own);
+        i = g.end;
+    }
+    made
+}
+
+// The rounded shares of all accounts, summed.
 pub fn part_sum(energy: &[u8], n: usize, p: Part) -> u64
     requires n_in_bounds { n * 24 ≤ length energy.now }
     requires sorted { Sorted (energy_row energy.now) n }
     requires shareable { Shareable p (energy_row energy.now) n }
     ensures { (result ≡ part_sum p (energy_row energy.now) n) × (result ≤ 51_200_000_000_000) }
 {
-    // A pool of 0 needs no pass.
-    if p.amount == 0 {
-        return 0;
-    }
-    let mut sum: u64 = 0;
-    let mut i = 0;
-    while i < n {
-        let g = gather(energy, n, i, p);
-        sum += amounts::shares::owned_share(p.amount, g.own, p.whole).whole;
-        i = g.end;
-    }
-    sum
+    over_accounts(energy, n, p, 0, |sum, own| {
+        sum + shares::owned_share(p.amount, own, p.whole).whole
+    })
 }
 
-// What was cut off these shares, over the whole. It is a pass of its own, so that who wants the sum of the shares alone does not pay for it. Who owns
-// nothing is divided for too: which accounts do not, a branch would often guess wrong.
+// What was cut off these shares, over the whole. Who wants the sum of the shares alone does not pay for it. Who owns nothing is divided for too: which
+// accounts do not, a branch would often guess wrong.
 pub fn part_cut(energy: &[u8], n: usize, p: Part) -> i64
     requires n_in_bounds { n * 24 ≤ length energy.now }
     requires sorted { Sorted (energy_row energy.now) n }
     requires shareable { Shareable p (energy_row energy.now) n }
     ensures { (result ≡ part_cut p (energy_row energy.now) n) × (nat_abs result ≤ 51_200_000_000) }
 {
-    if p.amount == 0 {
-        return 0;
-    }
-    let mut cut: i64 = 0;
-    let mut row = 0;
-    while row < n {
-        let g = gather(energy, n, row, p);
-        cut = sign::plus(
-            cut,
-            amounts::shares::rounded_share(p.amount, g.own, p.whole).cut,
-        );
-        row = g.end;
-    }
-    cut
+    over_accounts(energy, n, p, 0, |cut, own| {
+        sign::plus(cut, shares::rounded_share(p.amount, own, p.whole).cut)
+    })
 }

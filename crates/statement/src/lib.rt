@@ -30,22 +30,12 @@ pub struct Line {
     pub amount: i64,
 }
 
-// What a call that writes a statement answers, or one that tells its length: how many bytes it has, or the refusal's number and place.
-#[derive(Clone, Copy)]
-pub enum Written {
-    Length(usize),
-    Refused(u8, usize),
-}
-
 // The three letters of the mark.
 fn put_mark(buf: &mut [u8])
     requires { 3 ≤ length buf.old }
     ensures { buf.new ≡ put buf.old 0 rcs }
 {
-    let mark = b"RCS";
-    write::put_u8(buf, 0, mark[0]);
-    write::put_u8(buf, 1, mark[1]);
-    write::put_u8(buf, 2, mark[2]);
+    buf[..3].copy_from_slice(b"RCS");
 }
 
 // The mark, the reserved byte and the version.

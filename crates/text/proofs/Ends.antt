@@ -8,15 +8,15 @@ use borrow.Author.Tests.{leb-true, le-leb, lt-ltb, le-ltb}
 use lib.Dec.{eqb, leb}
 use lib.ListN.{length, take, drop, length-append}
 use lib.Seq.{length-take-le, take-append-le}
+use Rattle.std.specs.Prelude.{Result, Ok, Err}
 use Rattle.ground.specs.Bytes.{u32_at, part_from, part, AreBytes}
 use Rattle.ground.specs.Inner.Put.{Wrote}
 use Rattle.ground.proofs.Every.{every}
 use Rattle.ground.proofs.Put.{put_length, wrote_more, wrote_length}
+use Rattle.sections.specs.declared.Refusal.{Refusal}
 use Rattle.calendar.specs.Calendar.{is_period}
 use Rattle.statement.specs.Lent.{Outcome, gives, length_for, answer_for, left_in, Lent}
 use Rattle.statement.specs.declared.Heading.{Heading}
-use Rattle.statement.specs.declared.Written.{Written}
-use Rattle.statement.specs.declared.Written.TheVariants.{Length, Refused}
 use Rattle.statement.proofs.Lent.{lent_front, refused_length, Long, long_given}
 use Rattle.parsing.specs.Parsing.{heading_at, heading_ok, lines_in, statement_marked, headed, is_statement}
 use Rattle.parsing.proofs.Whole.{headed_length, statement_long, statement_headed}
@@ -65,7 +65,7 @@ module _ (s : List ℕ) (q : is_statement s ≡ true) where
 -- ---- a statement that is lent just its length: o is what the rules give, of n bytes; d is the array whose first n are lent, and e what they
 -- ---- hold then
 
-module _ (o : Outcome) {n : ℕ} (told : Length n ≡ length_for o) (d : List ℕ) (fits : n ≤ length d) {r : Written} {e : List ℕ} (h : Lent o (take n d) r e) where
+module _ (o : Outcome) {n : ℕ} (told : Ok n ≡ length_for o) (d : List ℕ) (fits : n ≤ length d) {r : Result ℕ Refusal} {e : List ℕ} (h : Lent o (take n d) r e) where
   due : Long o n
   due = long_given o n told
 
@@ -73,9 +73,9 @@ module _ (o : Outcome) {n : ℕ} (told : Length n ≡ length_for o) (d : List �
   has_room = le-leb (length due.bytes) (length (take n d)) (omega (arith, due.long, length-take-le n d fits))
 
   -- it is never refused 13
-  just_room : r ≡ Length n
+  just_room : r ≡ Ok n
   unfolding answer_for
-  just_room = (rw (due.given, has_room) at h.answer) ∙ ap Length (sym due.long)
+  just_room = (rw (due.given, has_room) at h.answer) ∙ ap Ok (sym due.long)
 
   as_long : length e ≡ n
   unfolding left_in
@@ -88,14 +88,14 @@ module _ (o : Outcome) {n : ℕ} (told : Length n ≡ length_for o) (d : List �
       lent_front o (take n d) n e (rw just_room at h)
       ∙ ap gives (sym (take-append-le n e (drop n d) (omega (arith, as_long))))
 
-module _ (b : List ℕ) (account : ℕ) (bytes : AreBytes b) (small : account < 2 ^ 32) {n : ℕ} (told : Length n ≡ length_for (outcome b [] account)) (d : List ℕ) (room : 51_672 ≡ length d) where
+module _ (b : List ℕ) (account : ℕ) (bytes : AreBytes b) (small : account < 2 ^ 32) {n : ℕ} (told : Ok n ≡ length_for (outcome b [] account)) (d : List ℕ) (room : 51_672 ≡ length d) where
   -- the array holds every statement
   pub fits : n ≤ length d
   fits =
       let due = long_given (outcome b [] account) n told in
       omega (arith, due.long, statement_short due.bytes (written_and_read b [] account due.bytes bytes small due.given).accepted)
 
-  module _ {r : Written} {e : List ℕ} (h : Lent (outcome b [] account) (take n d) r e) where
+  module _ {r : Result ℕ Refusal} {e : List ℕ} (h : Lent (outcome b [] account) (take n d) r e) where
     given : outcome b [] account ≡ gives (take n (e ++ drop n d))
     given = front_given (outcome b [] account) told d fits h
 
@@ -110,9 +110,9 @@ module _ (b : List ℕ) (account : ℕ) (bytes : AreBytes b) (small : account < 
     said_given w = rw given w
 
 -- where the length is refused, the outcome is that refusal
-pub said_refused : (o : Outcome) {number place : ℕ} {w : Written} → w ≡ length_for o → w ≡ Refused number place → {t u : List ℕ} {e : ℕ} → Said t (refusal_text number place) u e → Said t (outcome_text o) u e
+pub said_refused : (o : Outcome) {r : Refusal} {w : Result ℕ Refusal} → w ≡ length_for o → w ≡ Err r → {t u : List ℕ} {e : ℕ} → Said t (refusal_text r.number r.place) u e → Said t (outcome_text o) u e
 unfolding outcome_text
-said_refused o a q s = rw (refused_length o _ _ (sym q ∙ a)) s
+said_refused o {r} a q s = rw (refused_length o r.number r.place (sym q ∙ a)) s
 
 -- ---- the input
 

@@ -6,10 +6,9 @@ use mathlib.Core.Bool.{Bool, true, false, cond}
 use mathlib.Core.List.{List, []}
 use lib.ListN.{length}
 use Rattle.ground.specs.Bytes.{AreBytes}
-use Rattle.sections.specs.Refusal.{unless, earlier, first_of}
-use Rattle.sections.specs.declared.Verdict.TheVariants.{Accepted}
+use Rattle.sections.specs.Refusal.{unless, earlier, first_of, unrefused}
 use Rattle.sections.proofs.Cases.{zero_one}
-use Rattle.sections.proofs.Refusal.{record_held}
+use Rattle.sections.proofs.Verdicts.{record_held}
 use Rattle.locking.specs.Locking.{reads_locked}
 use Rattle.locking.proofs.Tests.{read_holds}
 use Rattle.book.specs.Header.{header_of}
@@ -26,12 +25,12 @@ use Rattle.printing.specs.Printing.{statement_text}
 use Rattle.text.specs.Listing.{outcome_text}
 
 -- no bytes at all are no book
-none_sound : soundness [] ≡ Accepted → ⊥
+none_sound : soundness [] ≡ unrefused → ⊥
 unfolding unless earlier first_of check1 soundness
 none_sound e = zero_one cc
 
 -- so a book with a test payment is refused where no locked book is lent, and an accepted one is settled by itself
-pub settled_alone : (b : List ℕ) → verdict b [] ≡ Accepted → locked_for b [] ≡ b
+pub settled_alone : (b : List ℕ) → verdict b [] ≡ unrefused → locked_for b [] ≡ b
 unfolding check18 locked_for
 settled_alone b e = by (reads_locked (book_of b).contract (header_of b).contracts) refl
   where

@@ -2,17 +2,15 @@
 // Each writer answers where its bytes end; every other byte is as it was.
 #![tactic(auto)]
 
-ghost use Rattle.std.specs.Prelude.{◌≡◌, true, [], ◌≤◌, length};
+ghost use Rattle.std.specs.Prelude.{◌≡◌, true, [], ◌≤◌, length, Ok};
 ghost use Rattle.parsing.specs.Parsing.{heading_at, lines_in, is_statement};
 ghost use Rattle.statement.specs.Lent.{length_for};
-ghost use Rattle.statement.specs.declared.Written.TheVariants.{Length};
 ghost use Rattle.settlement.specs.Settle.{outcome};
 ghost use Rattle.printing.specs.Inner.Said.{Said};
 ghost use Rattle.printing.specs.Printing.{statement_text};
 ghost use Rattle.text.specs.Listing.{outcome_text, listing_of};
 
 use ground::read;
-use statement::Written;
 
 // A statement: its header, and all its lines.
 pub fn put_statement(text: &mut [u8], s: &[u8]) -> usize
@@ -36,7 +34,7 @@ fn room() -> [u8; 51_672]
 // An account's statement from a book, of n bytes: just so many are lent, and so they are written. No locked book is lent.
 fn put_settled(text: &mut [u8], account: u32, book: &[u8], n: usize) -> usize
     requires in_bounds { 114_128 ≤ length text.old }
-    requires n_value { Length n ≡ length_for (outcome book.now [] account) }
+    requires n_value { Ok n ≡ length_for (outcome book.now [] account) }
     ensures { Said text.old (outcome_text (outcome book.now [] account)) text.new result }
 {
     let mut buffer = room();
@@ -51,8 +49,8 @@ fn put_outcome(text: &mut [u8], account: u32, book: &[u8]) -> usize
     ensures { Said text.old (outcome_text (outcome book.now [] account)) text.new result }
 {
     match settlement::length(book, b"", account) {
-        Written::Length(n) => put_settled(text, account, book, n),
-        Written::Refused(number, place) => printing::put_refusal(text, number, place),
+        Ok(n) => put_settled(text, account, book, n),
+        Err(e) => printing::put_refusal(text, e.number, e.place),
     }
 }
 

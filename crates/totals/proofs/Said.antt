@@ -1,7 +1,7 @@
 -- What checks 9 and 10 say where they refuse nothing. Assumes nothing.
 use Prim.Native.Nat.{ℕ, ◌<◌}
-use mathlib.Core.Path.{◌≡◌, refl}
-use mathlib.Core.Bool.{Bool, true, false, ◌&&◌, ◌||◌, not}
+use mathlib.Core.Path.{◌≡◌}
+use mathlib.Core.Bool.{true, not}
 use mathlib.Core.List.{[], ◌∷◌}
 use mathlib.Core.Logic.{⊎_elim}
 use borrow.Author.Tests.{eqb-true, eqb-false, not-true, ne_eqb}
@@ -9,7 +9,7 @@ use lib.Dec.{eqb}
 use native.Mathlib.Nat.{eq-zero-or-pos}
 use Rattle.ground.proofs.Every.{every}
 use Rattle.sections.specs.First.{first_bad}
-use Rattle.sections.specs.declared.Checked.TheVariants.{Good}
+use Rattle.std.specs.Prelude.{None}
 use Rattle.sections.proofs.First.{first_each}
 use Rattle.sections.proofs.Search.{all_each}
 use Rattle.market.specs.declared.Basis.{Basis}
@@ -21,9 +21,8 @@ use Rattle.records.specs.declared.rows.Constraint.{Constraint}
 use Rattle.records.specs.declared.rows.EnergyRow.{EnergyRow}
 use Rattle.records.specs.declared.rows.Contract.{Contract}
 use Rattle.totals.specs.Sums.{entry_by, sum_in, sum_tests, entry_is, entry_has_sums}
-use Rattle.totals.specs.Inner.Facts.{SumsTo}
+use Rattle.totals.specs.Inner.Facts.{SumsTo, Funded}
 use Rattle.totals.specs.Divisors.{over_regions, constraint_divides, funded_in, contract_divides}
-use Rattle.totals.specs.Inner.Facts.{Funded}
 
 -- ---- check 9
 
@@ -34,7 +33,7 @@ sums_to e sum q =
       each = each_basis (λ b. entry_by b e ≡ sum b) (eqb-true e.ace (sum Ace) h.0) (eqb-true e.asoe (sum Asoe) h.1.0) (eqb-true e.residual (sum Residual) h.1.1.0);
     }
 
-pub entry_of : (energy : ℕ → EnergyRow) (n : ℕ) (entry : ℕ → Entry) → first_bad (entry_has_sums energy n entry) 5 ≡ Good → (g : ℕ) → g < 5 → SumsTo (entry g) (sum_in energy n g)
+pub entry_of : (energy : ℕ → EnergyRow) (n : ℕ) (entry : ℕ → Entry) → first_bad (entry_has_sums energy n entry) 5 ≡ None → (g : ℕ) → g < 5 → SumsTo (entry g) (sum_in energy n g)
 unfolding entry_has_sums
 entry_of energy n entry k g l = sums_to (entry g) (sum_in energy n g) (first_each (entry_has_sums energy n entry) 5 k g l)
 
@@ -43,7 +42,7 @@ entry_of energy n entry k g l = sums_to (entry g) (sum_in energy n g) (first_eac
 above : (n : ℕ) → not (eqb n 0) ≡ true → 0 < n
 above n h = ⊎_elim (λ (e : n ≡ 0). absurd (eqb-false n 0 (not-true (eqb n 0) h) e)) (λ q. q) (eq-zero-or-pos n)
 
-pub divisor_of : (entry : ℕ → Entry) (con : ℕ → Constraint) (n : ℕ) → first_bad (constraint_divides entry con) n ≡ Good → (j : ℕ) → j < n → 0 < over_regions entry (con j)
+pub divisor_of : (entry : ℕ → Entry) (con : ℕ → Constraint) (n : ℕ) → first_bad (constraint_divides entry con) n ≡ None → (j : ℕ) → j < n → 0 < over_regions entry (con j)
 unfolding constraint_divides
 divisor_of entry con n k j l = above (over_regions entry (con j)) (first_each (constraint_divides entry con) n k j l)
 
@@ -53,7 +52,7 @@ funded entry f g d e =
     record { ace = above (entry g).ace h.0; asoe = above (entry g).asoe h.1.0 }
 
 -- entry k g is region g's in the book that settles contract k
-pub funded_of : (entry : ℕ → ℕ → Entry) (contract : ℕ → Contract) (n : ℕ) → first_bad (λ k. contract_divides (entry k) contract k) n ≡ Good → (k : ℕ) → k < n → (g : ℕ) → g < 5 → (factor_of (contract k).factors g ≡ 0 → ⊥) → Funded (entry k g)
+pub funded_of : (entry : ℕ → ℕ → Entry) (contract : ℕ → Contract) (n : ℕ) → first_bad (λ k. contract_divides (entry k) contract k) n ≡ None → (k : ℕ) → k < n → (g : ℕ) → g < 5 → (factor_of (contract k).factors g ≡ 0 → ⊥) → Funded (entry k g)
 unfolding contract_divides
 funded_of entry contract n h k l g m d =
     funded (entry k) (factor_of (contract k).factors g) g d

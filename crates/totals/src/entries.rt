@@ -10,9 +10,9 @@ ghost use Rattle.totals.specs.Inner.Turns.{TotalsOf, SumRoom, Added};
 use market::{Basis, Region};
 use records::rows;
 use records::rows::{EnergyRow, Entry};
-use sections::Checked;
 
 // Energies by region, by their sizes: a sum for each region, three times. All accounts', or one's own.
+// Not one list of a struct: each list is summed, bounded and asked by its kind of energy (`sums_by`, `SumsOf`), and would have to be taken out of it.
 #[derive(Clone, Copy)]
 pub struct Totals {
     pub ace: [u64; 5],
@@ -46,20 +46,23 @@ fn bump(a: &mut [u64; 5], g: usize, x: u64)
     a[g] = a[g] + x;
 }
 
-// A row added to the sums of its region, g.
-pub fn add_row(
-    ace: &mut [u64; 5],
-    asoe: &mut [u64; 5],
-    residual: &mut [u64; 5],
-    r: EnergyRow,
-    g: usize,
-)
-    requires { (g < 5) × SumRoom (record { ace = ace.now; asoe = asoe.old; residual = residual.old }) g }
-    ensures { Added (record { ace = ace.entry.now; asoe = asoe.old; residual = residual.old }) g r (record { ace = ace.exit.now; asoe = asoe.new; residual = residual.new }) }
-{
-    bump(ace, g, row_by(Basis::Ace, r));
-    bump(asoe, g, row_by(Basis::Asoe, r));
-    bump(residual, g, row_by(Basis::Residual, r));
+impl Totals {
+    // No energy in any region.
+    pub const NONE: Totals = Totals {
+        ace: [0; 5],
+        asoe: [0; 5],
+        residual: [0; 5],
+    };
+
+    // A row added to the sums of its region, g.
+    pub fn add_row(&mut self, r: EnergyRow, g: usize)
+        requires { (g < 5) × SumRoom self.old g }
+        ensures { Added self.old g r self.new }
+    {
+        bump(&mut self.ace, g, row_by(Basis::Ace, r));
+        bump(&mut self.asoe, g, row_by(Basis::Asoe, r));
+        bump(&mut self.residual, g, row_by(Basis::Residual, r));
+    }
 }
 
 // The sums of the n energy rows by region.
@@ -68,46 +71,30 @@ fn by_region(energy: &[u8], n: usize) -> Totals
     requires by_index { (i : ℕ) → i < n → EnergyRule (energy_row energy.now i) }
     ensures { TotalsOf (energy_row energy.now) n result }
 {
-    let mut ace = [0u64; 5];
-    let mut asoe = [0u64; 5];
-    let mut residual = [0u64; 5];
-    let mut i = 0;
-    while i < n {
+    let mut t = Totals::NONE;
+    for i in 0..n {
         let r = rows::energy_row(energy, i);
-        add_row(&mut ace, &mut asoe, &mut residual, r, r.region as usize);
-        i += 1;
+        t.add_row(r, r.region as usize);
     }
-    Totals {
-        ace,
-        asoe,
-        residual,
-    }
+    t
 }
 
 // Whether a region's entry has the region's sums.
-pub fn entry_is(e: Entry, t: Totals, g: usize) -> bool
+pub fn entry_is(e: Entry, t: &Totals, g: usize) -> bool
     requires { g < 5 }
-    ensures { result ≡ entry_is e (sum_at t g) }
+    ensures { result ≡ entry_is e (sum_at t.now g) }
 {
-    let ace = t.ace;
-    let asoe = t.asoe;
-    let residual = t.residual;
-    (e.ace as u64 == ace[g]) & (e.asoe as u64 == asoe[g]) & (e.residual as u64 == residual[g])
+    (e.ace as u64 == t.ace[g]) & (e.asoe as u64 == t.asoe[g]) & (e.residual as u64 == t.residual[g])
 }
 
 // The first region entry that differs from its rows' sums.
-pub fn entries(regions: &[u8], energy: &[u8], n: usize) -> Checked
+pub fn entries(regions: &[u8], energy: &[u8], n: usize) -> Option<usize>
     requires in_bounds { (60 ≤ length regions.now) × ((n * 24 ≤ length energy.now) × (n ≤ 1024)) }
     requires by_index { (i : ℕ) → i < n → EnergyRule (energy_row energy.now i) }
     ensures { result ≡ first_bad (entry_has_sums (energy_row energy.now) n (entry_row regions.now)) 5 }
 {
     let t = by_region(energy, n);
-    let mut g = 0;
-    while g < Region::COUNT {
-        if !entry_is(rows::entry_row(regions, g), t, g) {
-            return Checked::Bad(g);
-        }
-        g += 1;
-    }
-    Checked::Good
+    sections::first_bad(Region::COUNT, |g| {
+        entry_is(rows::entry_row(regions, g), &t, g)
+    })
 }

@@ -1,4 +1,5 @@
 -- What it says that the settlement call gives bytes, and what is then known of the account. Assumes nothing.
+use Rattle.std.specs.Prelude.{Ok, Err}
 use Prim.Native.Nat.{ℕ, ◌*◌, ◌+◌, ◌≤◌, ◌<◌}
 use mathlib.Core.Path.{◌≡◌, refl, ap, ◌∙◌}
 use mathlib.Core.Bool.{Bool, true, false, not, ◌&&◌}
@@ -10,8 +11,7 @@ use lib.Dec.{eqb}
 use Rattle.ground.specs.Bytes.{part_from, AreBytes}
 use Rattle.ground.proofs.Back.{u32_small}
 use Rattle.ground.proofs.Part.{part_bytes}
-use Rattle.sections.specs.declared.Verdict.{Verdict}
-use Rattle.sections.specs.declared.Verdict.TheVariants.{Accepted, Refused}
+use Rattle.sections.specs.Refusal.{Verdict, unrefused}
 use Rattle.sections.proofs.Search.{some_found}
 use Rattle.records.specs.Rows.{constraint_row, unit_row, contract_row}
 use Rattle.book.specs.Header.{header_of, units_from, contracts_from}
@@ -30,13 +30,13 @@ use Rattle.trips.proofs.Due.{Narrow}
 -- ---- a call that gives bytes passed every check
 
 -- 1 to 10, 17 and 18
-verdict_gives : (v : Verdict) (o : Outcome) (xs : List ℕ) → outcome_if v o ≡ gives xs → (v ≡ Accepted) × (o ≡ gives xs)
+verdict_gives : (v : Verdict) (o : Outcome) (xs : List ℕ) → outcome_if v o ≡ gives xs → (v ≡ unrefused) × (o ≡ gives xs)
 unfolding outcome_if
-verdict_gives Accepted o xs e = (refl, e)
-verdict_gives (Refused number place) o xs e = absurd (apart number place xs e)
+verdict_gives (Ok _) o xs e = (refl, e)
+verdict_gives (Err x) o xs e = absurd (apart x.number x.place xs e)
 
 pub record Passed (b l : List ℕ) (account : ℕ) (xs : List ℕ) : Type 0 where
-  pub book : verdict b l ≡ Accepted
+  pub book : verdict b l ≡ unrefused
   pub known : unnamed (rows_of_account (book_of b) account) (locked_of (book_of (locked_for b l)) account) ≡ false
   pub under : any_over (lines_for (book_of b) (book_of (locked_for b l)) account) ≡ false
   pub bytes : xs ≡ statement_of account (public_of (book_of b)) (rows_of_account (book_of b) account) (locked_of (book_of (locked_for b l)) account)

@@ -1,36 +1,28 @@
--- A run over the unit rows of one constraint, turn by turn, and what its constraint's test shows. Assumes nothing.
-use Prim.Native.Nat.{ℕ, zero, suc, ◌+◌, ◌-◌, ◌*◌, ◌≤◌, ◌<◌}
-use mathlib.Core.List.{List, [], ◌∷◌}
+-- A run over the unit rows of one constraint, row by row, and what its constraint's test shows. Assumes nothing.
+use Prim.Native.Nat.{ℕ, zero, suc, ◌+◌, ◌-◌, ◌≤◌, ◌<◌}
+use mathlib.Core.List.{[], ◌∷◌}
 use mathlib.Core.Path.{◌≡◌, refl, sym, ap, ◌∙◌}
-use mathlib.Core.Bool.{Bool, true, false, cond, not, ◌&&◌, ◌||◌}
+use mathlib.Core.Bool.{Bool, true, false, not, ◌&&◌, ◌||◌}
 use mathlib.Core.Logic.{⊎_elim}
 use borrow.Author.Tests.{leb-true, eqb-true, ltb-true, lt-ltb, le-ltb, le-leb, eq-eqb, not-true, not-false}
-use borrow.Author.Count.{below_more}
 use lib.Dec.{eqb, leb, ltb}
 use native.Mathlib.Omega.{arith}
-use native.Mathlib.Nat.{le_refl}
-use Rattle.ground.specs.Bytes.{u32_at}
-use Rattle.numbers.specs.Sizes.{size_below, above_of, below_of}
 use Rattle.ground.proofs.Every.{every, all}
 use Rattle.sections.specs.Order.{rises_by, pair_below}
 use Rattle.sections.specs.Inner.Walk.{Under}
-use Rattle.sections.specs.Total.{keyed}
 use Rattle.sections.proofs.Cases.{no_yes}
 use Rattle.sections.proofs.Order.{rises_first, rises_later, rises_step}
 use Rattle.sections.proofs.Search.{lt_or_ge}
-use Rattle.sections.proofs.Total.{total_zero, total_bound, keyed_miss, keyed_le}
-use Rattle.sections.proofs.Walk.{sum_more}
-use Rattle.records.specs.Rows.{unit_row}
 use Rattle.rules.specs.Rules.{unit_below}
 use Rattle.records.specs.declared.rows.Constraint.{Constraint}
 use Rattle.records.specs.declared.rows.UnitRow.{UnitRow}
 use Rattle.factors.specs.Naming.{key_of}
 use Rattle.factors.specs.Factors.{sum_over}
 use Rattle.factors.specs.Inner.Facts.{sums_ok}
-use Rattle.factors.specs.Inner.Runs.{Factor, plus, minus, default, of_row, of_sums, FactorsAdded}
+use Rattle.factors.specs.Inner.Runs.{Factor, plus, minus, default, of_row, of_sums, unit_before, RunBy}
 use Rattle.factors.specs.declared.sums.Sums.{Sums}
-use Rattle.factors.proofs.Runs.{of_three, same_sums, none_summed}
-use Rattle.unit_pass.specs.Inner.Units.{follows, small_sums, run_holds, Followed, Along, Taken}
+use Rattle.factors.proofs.Runs.{of_three, same_sums, before_first, before_more, from_is_over}
+use Rattle.unit_pass.specs.Inner.Units.{follows, small_sums, run_holds, Followed, Taken}
 
 -- ---- order
 
@@ -61,80 +53,52 @@ rises_back row u h i e = rw (← e) (rises_step unit_below row i (rw (← e) at 
 -- ---- the run
 
 module _ (row : ℕ → UnitRow) (m k start : ℕ) where
-  -- the rows taken so far; a row of k with a unit is above the row before it exactly where its unit is above `last`
-  pub record Going (t : Sums) (last : ℕ) : Type 0 where
-    pub along : Along row m k start t
-    pub above : (i x : ℕ) → suc i ≡ t.next → last < x → pair_below (row i).constraint (row i).unit k x ≡ true
-    pub over : (x : ℕ) → 1 ≤ x → ((i : ℕ) → suc i ≡ t.next → pair_below (row i).constraint (row i).unit k x ≡ true) → last < x
+  -- a row that follows the one before it in the run belongs to the run, and back; the rows before the run name smaller ids
+  module _ (under : Under (key_of row) start k) (u : ℕ) (low : start ≤ u) (before : (i : ℕ) → start ≤ i → i < u → (row i).constraint ≡ k) where
+    pub followed : follows (row u) k (unit_before row start u) ≡ true → Followed row k u
+    followed f =
+        let h = every (eqb (row u).constraint k ∷ ltb (unit_before row start u) (row u).unit ∷ leb 1 (row u).account ∷ []) f in
+        let key : (row u).constraint ≡ k = eqb-true (row u).constraint k h.0 in
+        let up : unit_before row start u < (row u).unit = ltb-true (unit_before row start u) (row u).unit h.1.0 in
+        record {
+          same = key;
+          unit = omega (arith, up);
+          account = leb-true 1 (row u).account h.1.1.0;
+          order = rises_at row u (λ i z. rw key (⊎_elim
+              (λ (a : i < start). pair_first (row i).constraint (row i).unit k (row u).unit (under i a))
+              (λ (a : start ≤ i). pair_second (row i).constraint (row i).unit k (row u).unit (before i a (omega (arith, z))) (rw (← before_more row start u i a (omega (arith, z)) refl) at up))
+              (lt_or_ge i start)));
+        }
 
-  pub going_start : start ≤ m → Under (key_of row) start k → Going (record { next = start; pcf = 0; ncf = 0; dcf = 0 }) 0
-  going_start l under =
+    pub follows_back : Followed row k u → follows (row u) k (unit_before row start u) ≡ true
+    follows_back f =
+        all (eqb (row u).constraint k ∷ ltb (unit_before row start u) (row u).unit ∷ leb 1 (row u).account ∷ [])
+        (eq-eqb (row u).constraint k f.same, (lt-ltb (unit_before row start u) (row u).unit up, (le-leb 1 (row u).account f.account, tt)))
+      where
+        up : unit_before row start u < (row u).unit
+        up =
+            ⊎_elim
+            (λ (l : start < u).
+            let i = u - 1 in
+            let z : i + 1 ≡ u = omega arith in
+            let a : start ≤ i = omega arith in
+            rw (← before_more row start u i a z refl) (pair_later (row i).constraint (row i).unit (row u).constraint (row u).unit (before i a (omega arith) ∙ sym f.same) (rises_back row u f.order i (omega arith))))
+            (λ (l : u ≤ start). rw (← before_first row start u l) f.unit)
+            (lt_or_ge start u)
+
+  -- the run to its end by that test is the run
+  pub taken_by : Under (key_of row) start k → {t : Sums} → RunBy (λ r last. follows r k last) row m start t → Taken row m k start t
+  taken_by under {t} h =
       record {
-        along = record {
-          low = le_refl start;
-          high = l;
-          each = λ i a b. absurd (none i a b);
-          sum = λ c. none_summed start c ∙ nothing (of_row c);
-        };
-        above = λ i x e h. pair_first (row i).constraint (row i).unit k x (under i (omega arith));
-        over = λ x l h. l;
+        along = record { low = h.low; high = h.high; each = each; sum = λ c. h.sum c ∙ from_is_over row start k t.next c (λ i b e. omega (arith, under i b)) keys };
+        ended = λ l f. no_yes (h.ended l) (follows_back under t.next h.low keys f);
       }
     where
-      none : (i : ℕ) → start ≤ i → i < start → ⊥
-      none i a b = omega arith
+      keys : (i : ℕ) → start ≤ i → i < t.next → (row i).constraint ≡ k
+      keys i a b = eqb-true (row i).constraint k (every (eqb (row i).constraint k ∷ ltb (unit_before row start i) (row i).unit ∷ leb 1 (row i).account ∷ []) (h.each i a b)).0
 
-      nothing : (f : UnitRow → ℕ) → 0 ≡ sum_over row start k f
-      nothing f = total_zero _ start (λ i b. keyed_miss (key_of row) k (λ u. f (row u)) i (λ (q : key_of row i ≡ k). omega (arith, under i b)))
-
-  pub going_more : {t x : Sums} {r : UnitRow} {last : ℕ} {b : Bool} → Going t last → t.next < m → r ≡ row t.next → b ≡ follows r k last → not b ≡ false → FactorsAdded t r x → Going x r.unit
-  going_more {t} {x} {r} {last} {b} g l e q n a =
-      let h = every (eqb r.constraint k ∷ ltb last r.unit ∷ leb 1 r.account ∷ []) (sym q ∙ not-false b n) in
-      let u = t.next in
-      let key : (row u).constraint ≡ k = rw e at (eqb-true r.constraint k h.0) in
-      let up : last < (row u).unit = rw e at (ltb-true last r.unit h.1.0) in
-      let acc : 1 ≤ (row u).account = rw e at (leb-true 1 r.account h.1.1.0) in
-      let s = g.along in
-      let here : Followed row k u =
-      record {
-        same = key;
-        unit = omega arith;
-        account = acc;
-        order = rises_at row u (λ i z. rw key (g.above i (row u).unit z up));
-      }
-      in
-      record {
-        along = record {
-          low = omega (arith, a.next, s.low);
-          high = omega (arith, a.next);
-          each = λ i c d. below_more (λ (i : ℕ). start ≤ i → Followed row k i) u (λ i y z. s.each i z y) (λ _. here) i (rw a.next at d) c;
-          sum = λ c. rw (a.sum c, a.next) (sum_more _ m k _ u (s.sum c) key (ap (of_row c) e));
-        };
-        above = λ i y z w. last_row u i y key (ap (λ (r : UnitRow). r.unit) e) (omega (arith, a.next)) w;
-        over = λ y l w. rw e (pair_later (row u).constraint (row u).unit k y key (w u (omega (arith, a.next))));
-      }
-    where
-      last_row : (u i y : ℕ) {z : ℕ} → (row u).constraint ≡ k → z ≡ (row u).unit → i ≡ u → z < y → pair_below (row i).constraint (row i).unit k y ≡ true
-      last_row u i y key e q w = rw q (pair_second (row u).constraint (row u).unit k y key (rw e at w))
-
-  -- the next row does not follow, so it does not belong to the run
-  pub going_stop : {t : Sums} {r : UnitRow} {last : ℕ} {b : Bool} → Going t last → r ≡ row t.next → b ≡ follows r k last → not b ≡ true → Taken row m k start t
-  going_stop {t} {r} {last} {b} g e q n = record { along = g.along; ended = λ l f. no_yes (not-true b n) (q ∙ rw e (there f)) }
-    where
-      u : ℕ
-      u = t.next
-
-      there : Followed row k u → follows (row u) k last ≡ true
-      there f =
-          let up = g.over (row u).unit f.unit (λ i z. rw f.same at (rises_back row u f.order i z)) in
-          all (eqb (row u).constraint k ∷ ltb last (row u).unit ∷ leb 1 (row u).account ∷ [])
-          (eq-eqb (row u).constraint k f.same, (lt-ltb last (row u).unit up, (le-leb 1 (row u).account f.account, tt)))
-
-  -- there is no next row
-  pub going_done : {t : Sums} {last : ℕ} → Going t last → m ≤ t.next → Taken row m k start t
-  going_done {t} g l = record { along = g.along; ended = λ h f. none h }
-    where
-      none : t.next < m → ⊥
-      none h = omega arith
+      each : (i : ℕ) → start ≤ i → i < t.next → Followed row k i
+      each i a b = followed under i a (λ j c d. keys j c (omega arith)) (h.each i a b)
 
   -- no second end and no other sums fit a run
   pub taken_once : (t x : Sums) → Taken row m k start t → Taken row m k start x → t ≡ x
@@ -152,42 +116,6 @@ module _ (row : ℕ → UnitRow) (m k start : ℕ) where
           (λ (b : t.next ≤ x.next). omega arith)
           (lt_or_ge x.next t.next))
           (lt_or_ge t.next x.next)
-
--- ---- sums that fit
-
-plus_narrow : (w : ℕ) → above_of w ≤ 4_294_967_295
-unfolding above_of
-plus_narrow w = by (ltb w 2_147_483_648) refl
-  where
-    by : (t : Bool) → ltb w 2_147_483_648 ≡ t → cond t w 0 ≤ 4_294_967_295
-    by true e = let l = ltb-true w 2_147_483_648 e in omega arith
-    by false e = omega arith
-
-size_narrow : (w : ℕ) → size_below w ≤ 4_294_967_295
-size_narrow w = omega arith
-
-minus_narrow : (w : ℕ) → below_of w ≤ 4_294_967_295
-unfolding below_of
-minus_narrow w = by (ltb w 2_147_483_648)
-  where
-    by : (t : Bool) → cond t 0 (size_below w) ≤ 4_294_967_295
-    by true = omega arith
-    by false = size_narrow w
-
-module _ (s : List ℕ) where
-  row_narrow : (i : ℕ) (c : Factor) → of_row c (unit_row s i) ≤ 4_294_967_295
-  unfolding unit_row
-  row_narrow i plus = plus_narrow (u32_at s (i * 20 + 12))
-  row_narrow i minus = minus_narrow (u32_at s (i * 20 + 12))
-  row_narrow i default = size_narrow (u32_at s (i * 20 + 16))
-
-  -- sums of at most 600 sizes of 32 bits
-  bound : (c : Factor) (n k : ℕ) → n ≤ 600 → sum_over (unit_row s) n k (of_row c) ≤ 3_000_000_000_000
-  bound c n k few =
-      omega (arith, total_bound (keyed (key_of (unit_row s)) k (λ u. of_row c (unit_row s u))) 4_294_967_295 n (λ i _. keyed_le (key_of (unit_row s)) k (λ u. of_row c (unit_row s u)) 4_294_967_295 i (row_narrow i c)))
-
-  pub along_fits : (m k start : ℕ) {t : Sums} → m ≤ 600 → Along (unit_row s) m k start t → (c : Factor) → of_sums c t ≤ 3_000_000_000_000
-  along_fits m k start {t} few h c = rw (h.sum c) (bound c t.next k (omega (arith, h.high)))
 
 -- ---- the test of a constraint
 

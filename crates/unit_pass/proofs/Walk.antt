@@ -21,10 +21,9 @@ use Rattle.rules.specs.Inner.Facts.{ConstraintRule}
 use Rattle.records.specs.declared.rows.Constraint.{Constraint}
 use Rattle.records.specs.declared.rows.UnitRow.{UnitRow}
 use Rattle.factors.specs.Naming.{id_of, key_of, named_at}
-use Rattle.factors.specs.Inner.Facts.{Owner}
+use Rattle.factors.specs.Inner.Facts.{Owner, sums_ok}
 use Rattle.factors.specs.Factors.{sum_over, factors_at}
-use Rattle.factors.specs.Inner.Facts.{sums_ok}
-use Rattle.factors.specs.Inner.Runs.{Factor, plus, minus, default, of_row, of_sums}
+use Rattle.factors.specs.Inner.Runs.{Factor, plus, minus, default, of_row}
 use Rattle.factors.specs.declared.sums.Sums.{Sums}
 use Rattle.factors.proofs.Runs.{none_is}
 use Rattle.unit_pass.specs.Inner.Units.{Taken}

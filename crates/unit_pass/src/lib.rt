@@ -32,23 +32,7 @@ fn run(units: &[u8], m: usize, from: usize, key: u32) -> Sums
     requires under { Under (key_of (unit_row units.now)) from key }
     ensures { Taken (unit_row units.now) m key from result }
 {
-    let mut t = Sums {
-        next: from,
-        pcf: 0,
-        ncf: 0,
-        dcf: 0,
-    };
-    let mut last = 0;
-    while t.next < m {
-        let u = t.next;
-        let r = rows::unit_row(units, u);
-        if !in_run(r, key, last) {
-            return t;
-        }
-        last = r.unit;
-        t = sums::add(t, r);
-    }
-    t
+    sums::run_by(units, m, from, |r, last| in_run(r, key, last))
 }
 
 // Whether no sum is above 1,000,000, so that no row's factors are.
@@ -76,15 +60,13 @@ pub fn units_hold(cons: &[u8], n: usize, units: &[u8], m: usize) -> bool
     ensures { result ≡ units_hold (constraint_row cons.now) n (unit_row units.now) m }
 {
     let mut u = 0;
-    let mut j = 0;
-    while j < n {
+    for j in 0..n {
         let r = rows::constraint_row(cons, j);
         let t = run(units, m, u, r.id);
         if !settles(r, t, u) {
             return false;
         }
         u = t.next;
-        j += 1;
     }
     u == m
 }

@@ -1,12 +1,12 @@
 -- The lines of a constraint's unit rows, row by row: before its run there are none, and after it no more. Assumes nothing.
-use Prim.Native.Nat.{ℕ, ◌+◌, ◌≤◌, ◌<◌}
+use Prim.Native.Nat.{ℕ, ◌+◌, ◌<◌}
 use mathlib.Core.Path.{◌≡◌}
 use mathlib.Core.List.{List}
 use borrow.Author.Tests.{eq-eqb, ne_eqb}
 use lib.ListN.{length}
 use native.Mathlib.Omega.{arith}
 use Rattle.sections.specs.Inner.Walk.{Stands, Past}
-use Rattle.sections.proofs.Walk.{Run, run_start, run_next, run_stop, run_done}
+use Rattle.sections.proofs.Walk.{Run, run_start, run_next, run_stop}
 use Rattle.records.specs.declared.rows.Constraint.{Constraint}
 use Rattle.records.specs.declared.rows.UnitRow.{UnitRow}
 use Rattle.factors.specs.Naming.{key_of}
@@ -74,6 +74,3 @@ module _ (unit : ℕ → UnitRow) (m account : ℕ) (r : Constraint) (p : Pools)
 
       pub running_stop : Walked unit m → (q.constraint ≡ r.id → ⊥) → UnitsDone unit m account r p l t b (record { next = u; place = x })
       running_stop o d = done u b x h (run_stop _ m r.id u o.keep h.run j (rw e at d))
-
-    pub running_done : (u : ℕ) {b : List ℕ} {x : ℕ} → Running l t b u x → m ≤ u → UnitsDone unit m account r p l t b (record { next = u; place = x })
-    running_done u {b} {x} h k = done u b x h (run_done _ m r.id u h.run (omega (arith, h.run.high)))

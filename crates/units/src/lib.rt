@@ -17,6 +17,7 @@ use amounts::pools;
 use amounts::pools::Pools;
 use divisors::Share;
 use lines::make;
+use lines::portion::Portion;
 use market::Mode;
 use records::rows;
 use records::rows::{Constraint, UnitRow};
@@ -48,7 +49,8 @@ pub struct Cursor {
     pub place: usize,
 }
 
-// The unit lines of one constraint, from the first of its unit rows on.
+// The unit lines of one constraint, from the first of its unit rows on. `lookup` has a loop over the same rows: one walk for both would take what is
+// done at a row as a closure, which writes on here and may stop with a line there, and would be no plainer.
 fn unit_run(
     buf: &mut [u8],
     units: &[u8],
@@ -65,9 +67,8 @@ fn unit_run(
     requires line_room { LineRoom buf.old from.place (length (joined (unit_lines_at (unit_row units.now) account r p) m)) }
     ensures { UnitsDone (unit_row units.now) m account r p buf.old from.place buf.new result }
 {
-    let mut u = from.next;
     let mut end = from.place;
-    while u < m {
+    for u in from.next..m {
         let q = rows::unit_row(units, u);
         if q.constraint != r.id {
             return Cursor {
@@ -76,15 +77,15 @@ fn unit_run(
             };
         }
         end = own_unit(buf, end, r, p, q, account);
-        u += 1;
     }
     Cursor {
-        next: u,
+        next: m,
         place: end,
     }
 }
 
 // All lines of one constraint. A constraint of mode 0 has no unit rows, and the cursor stays.
+#[inline(never)] // so that its lines have room on the stack no longer than they are made
 pub fn constraint_lines(
     buf: &mut [u8],
     units: &[u8],
@@ -101,8 +102,12 @@ pub fn constraint_lines(
     requires line_room { LineRoom buf.old from.place (length (con_lines (unit_row units.now) m account r share.own share.total)) }
     ensures { LinesDone (unit_row units.now) m r (con_lines (unit_row units.now) m account r share.own share.total) buf.old from.place buf.new result }
 {
+    let portion = Portion {
+        own: share.own,
+        total: share.total,
+    };
     if r.mode == Mode::CONTINGENCY {
-        let line = make::contingency_line(r, share.own, share.total);
+        let line = make::contingency_line(r, portion);
         let end = statement::put_line(buf, from.place, line);
         return Cursor {
             next: from.next,
@@ -112,7 +117,7 @@ pub fn constraint_lines(
     let p = pools::pools_of(r);
     let walked = unit_run(buf, units, m, from, r, p, account);
     let x = pools::residual_of(r, p);
-    let end = emission::emit_rest(buf, walked.place, r, x, share.own, share.total);
+    let end = emission::emit_rest(buf, walked.place, r, x, portion);
     Cursor {
         next: walked.next,
         place: end,

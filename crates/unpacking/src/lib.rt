@@ -8,7 +8,8 @@ ghost use Rattle.statement.specs.Lent.{Lent};
 ghost use Rattle.unpacking.specs.Unpacking.{fields_bytes, all_fields, unpacked};
 
 use ground::write;
-use statement::{Line, Written};
+use sections::Refusal;
+use statement::Line;
 
 // A line's five numbers, at a place of the buffer.
 fn put_fields(buf: &mut [u8], at: usize, line: Line)
@@ -27,24 +28,18 @@ fn put_lines(buffer: &mut [u8], s: &[u8], n: usize)
     requires { (24 + n * 24 ≤ length s.now) × (n * 40 ≤ length buffer.old) }
     ensures { buffer.new ≡ put buffer.old 0 (all_fields (lines_in s.now n)) }
 {
-    let mut i = 0;
-    while i < n {
+    for i in 0..n {
         put_fields(buffer, i * 40, parsing::line_at(s, i));
-        i += 1;
     }
 }
 
 // The length that was written, or the refusal: 14, then 13.
-pub fn unpack(s: &[u8], buffer: &mut [u8]) -> Written
+pub fn unpack(s: &[u8], buffer: &mut [u8]) -> Result<usize, Refusal>
     ensures { Lent (unpacked s.now) buffer.old result buffer.new }
 {
-    if !parsing::is_statement(s) {
-        return Written::Refused(14, 0);
-    }
+    sections::unless(parsing::is_statement(s), 14)?;
     let lines = parsing::heading_at(s).lines as usize;
-    if buffer.len() < lines * 40 {
-        return Written::Refused(13, 0);
-    }
+    sections::unless(lines * 40 <= buffer.len(), 13)?;
     put_lines(buffer, s, lines);
-    Written::Length(lines * 40)
+    Ok(lines * 40)
 }

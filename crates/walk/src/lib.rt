@@ -7,11 +7,11 @@ ghost use Rattle.ground.specs.Bytes.{part_from};
 ghost use Rattle.accounts.specs.Rows.{joined};
 ghost use Rattle.lines.specs.Inner.Walks.{con_lines_at, contract_lines_at, settled_lines, totals_from, own_from, book_lines, Ready, SettledIn, Walkable};
 ghost use Rattle.emission.specs.Inner.Emitted.{Emitted, LineRoom};
-ghost use Rattle.book.specs.Book.{book_in, book_of};
-ghost use Rattle.book.specs.Inner.Facts.{Laid};
+ghost use Rattle.book.specs.Book.{book_of};
+ghost use Rattle.book.specs.Laid.{book_at};
 
 use accounts::energies::OwnEnergies;
-use book::header::Header;
+use book::laid::LaidBook;
 use locking::Source;
 use records::rows;
 use records::rows::Contract;
@@ -27,25 +27,19 @@ fn constraints(
     n: usize,
     units: &[u8],
     m: usize,
-    own: Totals,
+    own: &Totals,
     account: u32,
 ) -> usize
     requires in_bounds { (60 ≤ length regions.now) × ((n * 40 ≤ length cons.now) × (m * 20 ≤ length units.now)) }
-    requires ready { Ready (entry_row regions.now) (constraint_row cons.now) n (unit_row units.now) m own }
-    requires line_room { LineRoom buf.old place (length (joined (con_lines_at (entry_row regions.now) (constraint_row cons.now) (unit_row units.now) m account own) n)) }
-    ensures { Emitted buf.old place (joined (con_lines_at (entry_row regions.now) (constraint_row cons.now) (unit_row units.now) m account own) n) buf.new result }
+    requires ready { Ready (entry_row regions.now) (constraint_row cons.now) n (unit_row units.now) m own.now }
+    requires line_room { LineRoom buf.old place (length (joined (con_lines_at (entry_row regions.now) (constraint_row cons.now) (unit_row units.now) m account own.now) n)) }
+    ensures { Emitted buf.old place (joined (con_lines_at (entry_row regions.now) (constraint_row cons.now) (unit_row units.now) m account own.now) n) buf.new result }
 {
-    // Lent to each constraint: handed over in their struct, they would be copied for each.
-    let ace = own.ace;
-    let asoe = own.asoe;
-    let residual = own.residual;
     let mut here = Cursor { next: 0, place };
-    let mut j = 0;
-    while j < n {
+    for j in 0..n {
         let r = rows::constraint_row(cons, j);
-        let share = divisors::share_of(regions, &ace, &asoe, &residual, r);
+        let share = divisors::share_of(regions, own, r);
         here = units::constraint_lines(buf, units, m, here, r, share, account);
-        j += 1;
     }
     here.place
 }
@@ -57,12 +51,12 @@ fn contract<'a>(
     book: &'a [u8],
     locked: &'a [u8],
     k: Contract,
-    own: OwnEnergies,
+    own: &OwnEnergies,
 ) -> usize
     requires in_bounds { (84 ≤ length book.now) × (84 ≤ length locked.now) }
-    requires settled_in { SettledIn (entry_row (part_from 24 book.now)) (entry_row (part_from 24 locked.now)) own k }
-    requires line_room { LineRoom buf.old place (length (settled_lines (entry_row (part_from 24 book.now)) (entry_row (part_from 24 locked.now)) own k)) }
-    ensures { Emitted buf.old place (settled_lines (entry_row (part_from 24 book.now)) (entry_row (part_from 24 locked.now)) own k) buf.new result }
+    requires settled_in { SettledIn (entry_row (part_from 24 book.now)) (entry_row (part_from 24 locked.now)) own.now k }
+    requires line_room { LineRoom buf.old place (length (settled_lines (entry_row (part_from 24 book.now)) (entry_row (part_from 24 locked.now)) own.now k)) }
+    ensures { Emitted buf.old place (settled_lines (entry_row (part_from 24 book.now)) (entry_row (part_from 24 locked.now)) own.now k) buf.new result }
 {
     let source = Source::of(k.kind);
     let regions = locking::energies_of(source, book, locked);
@@ -77,19 +71,17 @@ fn contracts<'a>(
     locked: &'a [u8],
     contracts: &[u8],
     n: usize,
-    own: OwnEnergies,
+    own: &OwnEnergies,
 ) -> usize
     requires in_bounds { (84 ≤ length book.now) × ((84 ≤ length locked.now) × (n * 36 ≤ length contracts.now)) }
-    requires by_index { (k : ℕ) → k < n → SettledIn (entry_row (part_from 24 book.now)) (entry_row (part_from 24 locked.now)) own (contract_row contracts.now k) }
-    requires line_room { LineRoom buf.old place (length (joined (contract_lines_at (totals_from (entry_row (part_from 24 book.now)) (entry_row (part_from 24 locked.now))) (own_from own) (contract_row contracts.now)) n)) }
-    ensures { Emitted buf.old place (joined (contract_lines_at (totals_from (entry_row (part_from 24 book.now)) (entry_row (part_from 24 locked.now))) (own_from own) (contract_row contracts.now)) n) buf.new result }
+    requires by_index { (k : ℕ) → k < n → SettledIn (entry_row (part_from 24 book.now)) (entry_row (part_from 24 locked.now)) own.now (contract_row contracts.now k) }
+    requires line_room { LineRoom buf.old place (length (joined (contract_lines_at (totals_from (entry_row (part_from 24 book.now)) (entry_row (part_from 24 locked.now))) (own_from own.now) (contract_row contracts.now)) n)) }
+    ensures { Emitted buf.old place (joined (contract_lines_at (totals_from (entry_row (part_from 24 book.now)) (entry_row (part_from 24 locked.now))) (own_from own.now) (contract_row contracts.now)) n) buf.new result }
 {
     let mut end = place;
-    let mut i = 0;
-    while i < n {
+    for i in 0..n {
         let k = rows::contract_row(contracts, i);
         end = contract(buf, end, book, locked, k, own);
-        i += 1;
     }
     end
 }
@@ -98,37 +90,34 @@ fn contracts<'a>(
 // payments are settled by. Answers where they end.
 pub fn all_lines<'a>(
     buf: &mut [u8],
-    book: &'a [u8],
-    h: Header,
+    book: &LaidBook<'a>,
     locked: &'a [u8],
-    own: OwnEnergies,
+    own: &OwnEnergies,
     account: u32,
 ) -> usize
-    requires laid { Laid book.now h }
     requires in_bounds { 84 ≤ length locked.now }
-    requires walkable { Walkable (book_in book.now h) (book_of locked.now) own }
-    requires line_room { LineRoom buf.old 24 (length (book_lines (book_in book.now h) (book_of locked.now) account own)) }
-    ensures { Emitted buf.old 24 (book_lines (book_in book.now h) (book_of locked.now) account own) buf.new result }
+    requires walkable { Walkable (book_at book.now) (book_of locked.now) own.now }
+    requires line_room { LineRoom buf.old 24 (length (book_lines (book_at book.now) (book_of locked.now) account own.now)) }
+    ensures { Emitted buf.old 24 (book_lines (book_at book.now) (book_of locked.now) account own.now) buf.new result }
 {
-    let units = h.units_at();
-    let paid = h.contracts_at();
+    let h = book.header;
     let first = constraints(
         buf,
         24,
-        &book[24..],
-        &book[84..],
+        book.entries(),
+        book.constraints(),
         h.constraints as usize,
-        &book[units..],
+        book.units(),
         h.units as usize,
-        own.current,
+        &own.current,
         account,
     );
     contracts(
         buf,
         first,
-        book,
+        book.bytes,
         locked,
-        &book[paid..],
+        book.contracts(),
         h.contracts as usize,
         own,
     )

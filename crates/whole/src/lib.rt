@@ -4,32 +4,31 @@
 ghost use Rattle.std.specs.Prelude.{◌≡◌, ◌+◌, ◌*◌, ◌≤◌, length};
 ghost use Rattle.ground.specs.Inner.Put.{Wrote};
 ghost use Rattle.accounts.specs.declared.energies.OwnEnergies.{OwnEnergies};
-ghost use Rattle.book.specs.Book.{Book, book_in, book_of};
-ghost use Rattle.book.specs.Inner.Facts.{Laid};
+ghost use Rattle.book.specs.Book.{Book, book_of};
+ghost use Rattle.book.specs.Laid.{book_at};
 ghost use Rattle.book.specs.Inner.Accepted.{Sound};
 ghost use Rattle.lines.specs.Inner.Walks.{book_lines, Walkable};
 ghost use Rattle.whole.specs.Inner.Whole.{whole_of, Fits};
 
 use accounts::energies::OwnEnergies;
-use book::header::Header;
+use book::laid::LaidBook;
 use statement::Heading;
 
 // The lines, and then the header, which says how many they are, into a buffer that has room for them. Answers where they end.
 pub fn write<'a>(
     buffer: &mut [u8],
-    book: &'a [u8],
-    h: Header,
+    book: &LaidBook<'a>,
     locked: &'a [u8],
-    own: OwnEnergies,
+    own: &OwnEnergies,
     account: u32,
 ) -> usize
-    requires laid { Laid book.now h }
     requires in_bounds { 84 ≤ length locked.now }
-    requires walkable { Walkable (book_in book.now h) (book_of locked.now) own }
-    requires fits { Fits (book_lines (book_in book.now h) (book_of locked.now) account own) (length buffer.old) }
-    ensures { Wrote buffer.old 0 (whole_of account (book_in book.now h) (book_of locked.now) own) buffer.new result }
+    requires walkable { Walkable (book_at book.now) (book_of locked.now) own.now }
+    requires fits { Fits (book_lines (book_at book.now) (book_of locked.now) account own.now) (length buffer.old) }
+    ensures { Wrote buffer.old 0 (whole_of account (book_at book.now) (book_of locked.now) own.now) buffer.new result }
 {
-    let end = walk::all_lines(buffer, book, h, locked, own, account);
+    let end = walk::all_lines(buffer, book, locked, own, account);
+    let h = book.header;
     let heading = Heading {
         account,
         date: h.date,
@@ -42,10 +41,9 @@ pub fn write<'a>(
 }
 
 // How many bytes the statement has: 24 of its header, and 24 of each line. The lines are counted, and none is made.
-pub fn length_of(book: &[u8], h: Header, account: u32) -> usize
-    requires laid { Laid book.now h }
-    requires sound { Sound (book_in book.now h) }
-    ensures { (L : Book) (own : OwnEnergies) → result ≡ 24 + length (book_lines (book_in book.now h) L account own) * 24 }
+pub fn length_of(book: &LaidBook, account: u32) -> usize
+    requires { Sound (book_at book.now) }
+    ensures { (L : Book) (own : OwnEnergies) → result ≡ 24 + length (book_lines (book_at book.now) L account own) * 24 }
 {
-    24 + count::all_lines(book, h, account) * 24
+    24 + count::all_lines(book, account) * 24
 }

@@ -12,10 +12,8 @@ pub fn put_word(text: &mut [u8], at: usize, word: &[u8]) -> usize
     requires { at + length word.now ≤ length text.old }
     ensures { Wrote text.old at word.now text.new result }
 {
-    let mut i = 0;
-    while i < word.len() {
+    for i in 0..word.len() {
         write::put_u8(text, at + i, word[i]);
-        i += 1;
     }
     at + word.len()
 }
@@ -34,19 +32,12 @@ pub fn starts(text: &[u8], at: usize, word: &[u8]) -> bool
     requires { 1 ≤ length word.now }
     ensures { Tells word.now text.now at result }
 {
+    let n = word.len();
     if text.len() < at {
         return false;
     }
-    if text.len() - at < word.len() {
+    if text.len() - at < n {
         return false;
     }
-    let n = word.len();
-    let mut i = 0;
-    while i < n {
-        if text[at + i] != word[i] {
-            return false;
-        }
-        i += 1;
-    }
-    true
+    &text[at..at + n] == word
 }

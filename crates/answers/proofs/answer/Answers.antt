@@ -2,10 +2,10 @@
 use Rattle.answers.specs.Answers.{verdict_answer}
 use Rattle.answers.proofs.answer.Goals as goal
 
-pub returns-in-Accepted : goal.returns-in-Accepted
+pub returns-in-Ok : goal.returns-in-Ok
 unfolding verdict_answer
-returns-in-Accepted c = rw c.in-Accepted.is
+returns-in-Ok c = rw c.in-Ok.is
 
-pub returns-in-Refused : goal.returns-in-Refused
+pub returns-in-Err : goal.returns-in-Err
 unfolding verdict_answer
-returns-in-Refused c = rw c.in-Refused.is
+returns-in-Err c = rw c.in-Err.is

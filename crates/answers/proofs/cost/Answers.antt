@@ -2,10 +2,10 @@
 use Rattle.answers.specs.Answers.{cost_answer}
 use Rattle.answers.proofs.cost.Goals as goal
 
-pub returns-in-Amount : goal.returns-in-Amount
+pub returns-in-Ok : goal.returns-in-Ok
 unfolding cost_answer
-returns-in-Amount c = rw c.in-Amount.is
+returns-in-Ok c = rw c.in-Ok.is
 
-pub returns-in-Refused : goal.returns-in-Refused
+pub returns-in-Err : goal.returns-in-Err
 unfolding cost_answer
-returns-in-Refused c = rw c.in-Refused.is
+returns-in-Err c = rw c.in-Err.is

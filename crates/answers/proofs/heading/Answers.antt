@@ -1,11 +1,12 @@
 -- `answers::heading` meets its contract. The case decides. Assumes nothing.
+use Rattle.std.proofs.Common.{rules}
 use Rattle.answers.specs.Answers.{heading_answer}
 use Rattle.answers.proofs.heading.Goals as goal
 
-pub returns-in-Heading : goal.returns-in-Heading
+pub returns-in-Ok : goal.returns-in-Ok
 unfolding heading_answer
-returns-in-Heading c = rw c.in-Heading.is
+returns-in-Ok c = rw c.in-Ok.is
 
-pub returns-in-Refused : goal.returns-in-Refused
+pub returns-in-Err : goal.returns-in-Err
 unfolding heading_answer
-returns-in-Refused c = rw c.in-Refused.is
+returns-in-Err c = rw c.in-Err.is (search rules)

@@ -5,12 +5,12 @@ use Rattle.answers.proofs.nmas_entry.Goals as goal
 
 pub nmas_row-requires : goal.nmas_row-requires
 unfolding RowSized
-nmas_row-requires c = rw c.in-Row.is at c.requires
+nmas_row-requires c = rw c.in-Ok.is at c.requires
 
-pub returns-in-Row : goal.returns-in-Row
+pub returns-in-Ok : goal.returns-in-Ok
 unfolding nmas_entry_answer
-returns-in-Row c = rw c.in-Row.is c.nmas_row.ensures
+returns-in-Ok c = rw c.in-Ok.is c.nmas_row.ensures
 
-pub returns-in-Refused : goal.returns-in-Refused
+pub returns-in-Err : goal.returns-in-Err
 unfolding nmas_entry_answer
-returns-in-Refused c = rw c.in-Refused.is c.no_row.ensures
+returns-in-Err c = rw c.in-Err.is c.no_row.ensures

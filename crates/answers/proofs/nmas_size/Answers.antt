@@ -2,10 +2,10 @@
 use Rattle.answers.specs.Answers.{nmas_size_answer}
 use Rattle.answers.proofs.nmas_size.Goals as goal
 
-pub returns-in-Rows : goal.returns-in-Rows
+pub returns-in-Ok : goal.returns-in-Ok
 unfolding nmas_size_answer
-returns-in-Rows c = rw c.in-Rows.is
+returns-in-Ok c = rw c.in-Ok.is
 
-pub returns-in-Refused : goal.returns-in-Refused
+pub returns-in-Err : goal.returns-in-Err
 unfolding nmas_size_answer
-returns-in-Refused c = rw c.in-Refused.is
+returns-in-Err c = rw c.in-Err.is

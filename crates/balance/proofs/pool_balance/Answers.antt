@@ -1,23 +1,16 @@
 -- `balance::pool_balance` meets its contract. A refusal of the book is the answer; else the pool's balance, or 15. Assumes nothing.
-use native.Mathlib.Omega.{arith}
-use Rattle.book.proofs.Second.{given, laid_in, locked_laid, promised_in, stands_in}
+use mathlib.Core.Path.{refl, sym}
+use Rattle.sections.proofs.Verdicts.{handed_on}
+use Rattle.verdict.proofs.Both.{both_promised, both_stand, book_headed, second_headed}
 use Rattle.balance.proofs.Ends.{end_refused, end_balanced}
 use Rattle.balance.proofs.pool_balance.Goals as goal
 
-pub returns-in-Refused : goal.returns-in-Refused
-returns-in-Refused c = end_refused c.args.book.now c.args.locked.now c.args.number c.check.ensures c.in-Refused.is
-
-pub header_of-h-requires : goal.header_of-h-requires
-header_of-h-requires c = let q = c.check.ensures in let e = c.in_default.is in omega (arith, (given c.args.book.now c.args.locked.now q e).long)
-
-pub settles_tests-second-requires : goal.settles_tests-second-requires
-settles_tests-second-requires c = let q = c.check.ensures in let e = c.in_default.is in laid_in c.args.book.now c.args.locked.now q e c.header_of-h.ensures
+pub returns-in_err-both : goal.returns-in_err-both
+returns-in_err-both c = end_refused c.args.book.now c.args.locked.now c.args.number (sym c.in_err-both.ensures) refl (handed_on _ c.from_residual.ensures.1)
 
 pub balance_at-requires : goal.balance_at-requires
-balance_at-requires c = let q = c.check.ensures in let e = c.in_default.is in
-    let i = c.header_of-h.ensures in
-    let t = c.settles_tests-second.ensures in
-    record { laid = ((laid_in c.args.book.now c.args.locked.now q e i, i), locked_laid c.args.book.now c.args.locked.now q e i t); promise = promised_in c.args.book.now c.args.locked.now q e i t; stands_in = stands_in c.args.book.now c.args.locked.now q e i t }
+balance_at-requires c = let both = c.in_ok-both.ensures in
+    record { headed = (book_headed both, second_headed both); promise = both_promised both; stands_in = both_stand both }
 
 pub returns : goal.returns
-returns c = let q = c.check.ensures in let e = c.in_default.is in end_balanced c.args.book.now c.args.locked.now c.args.number q e c.header_of-h.ensures c.settles_tests-second.ensures c.balance_at.ensures
+returns c = end_balanced c.args.book.now c.args.locked.now c.args.number c.in_ok-both.ensures c.balance_at.ensures

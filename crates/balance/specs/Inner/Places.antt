@@ -1,5 +1,5 @@
 -- Where the pool of a number stands, as a walk over the constraints finds it. Only contracts of inner functions speak of this.
-use Rattle.std.specs.Prelude.{ℕ, ◌<◌, ◌≡◌, true, [], List, ◌∷◌, ◌++◌}
+use Rattle.std.specs.Prelude.{ℕ, ◌<◌, ◌≡◌, true, [], List, ◌∷◌, ◌++◌, Option, None, Some}
 use Rattle.records.specs.declared.rows.Constraint.{Constraint}
 use Rattle.records.specs.declared.rows.Contract.{Contract}
 use Rattle.accounts.specs.Rows.{rows_of, concat_map}
@@ -19,10 +19,10 @@ abbrev pub pools_over : (ℕ → Constraint) → ℕ → (ℕ → Contract) → 
 pools_over con n contract c = concat_map constraint_pools (rows_of con n) ++ concat_map (λ k. contract_pool k ∷ []) (rows_of contract c)
 
 -- whatever the contracts say, the pool of a number is the one at the place
-unfoldable pub PlaceIs : (ℕ → Constraint) → ℕ → ℕ → ℕ → Place → Type 0
-PlaceIs con n c number (place.Constraint j kind) =
+unfoldable pub PlaceIs : (ℕ → Constraint) → ℕ → ℕ → ℕ → Option Place → Type 0
+PlaceIs con n c number (Some (place.Constraint j kind)) =
     (j < n)
     × ((belongs (con j) kind ≡ true) × ((contract : ℕ → Contract) → pool_at (pools_over con n contract c) number ≡ found (constraint_pool (con j) kind)))
-PlaceIs con n c number (place.Contract i) =
+PlaceIs con n c number (Some (place.Contract i)) =
     (i < c) × ((contract : ℕ → Contract) → pool_at (pools_over con n contract c) number ≡ found (contract_pool (contract i)))
-PlaceIs con n c number place.Past = (contract : ℕ → Contract) → pool_at (pools_over con n contract c) number ≡ past
+PlaceIs con n c number None = (contract : ℕ → Contract) → pool_at (pools_over con n contract c) number ≡ past

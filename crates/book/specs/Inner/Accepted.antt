@@ -1,5 +1,5 @@
 -- What a sound book and an accepted book promise, for whoever builds on them: no check need be opened again.
-use Rattle.std.specs.Prelude.{ℕ, ◌+◌, ◌≤◌, ◌<◌, ◌≡◌, true, false, ◌&&◌, cond, List, eqb, length}
+use Rattle.std.specs.Prelude.{ℕ, ◌≤◌, ◌<◌, ◌≡◌, true, false, ◌&&◌, cond, List, eqb, length}
 use Rattle.sections.specs.Total.{total}
 use Rattle.calendar.specs.Calendar.{is_period}
 use Rattle.market.specs.declared.Basis.{Basis}
@@ -7,13 +7,11 @@ use Rattle.rules.specs.Rules.{factor_of}
 use Rattle.records.specs.declared.rows.Entry.{Entry}
 use Rattle.records.specs.declared.rows.UnitRow.{UnitRow}
 use Rattle.records.specs.declared.rows.EnergyRow.{EnergyRow}
-use Rattle.factors.specs.Inner.Facts.{Owner}
+use Rattle.factors.specs.Inner.Facts.{Owner, Whole, Plain}
 use Rattle.factors.specs.Factors.{sum_over}
-use Rattle.factors.specs.Inner.Facts.{Whole, Plain}
 use Rattle.totals.specs.Sums.{entry_by, row_by, entry_with, sum_in}
-use Rattle.totals.specs.Inner.Facts.{SumsTo}
+use Rattle.totals.specs.Inner.Facts.{SumsTo, Funded}
 use Rattle.totals.specs.Divisors.{over_regions}
-use Rattle.totals.specs.Inner.Facts.{Funded}
 use Rattle.book.specs.Header.{header_of, whole_length}
 use Rattle.locking.specs.Locking.{reads_locked}
 use Rattle.book.specs.declared.header.Header.{Header}

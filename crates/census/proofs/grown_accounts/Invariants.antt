@@ -1,5 +1,4 @@
--- `census::grown_accounts` meets its contract. The invariant: the count is the number of accounts of the unit rows and the energy rows so far. The tree stays as the unit rows left it. The measure is what is left. Assumes nothing.
-use Prim.Native.Nat.{◌≤◌, ◌-◌}
+-- `census::grown_accounts` meets its contract. The invariant: the count is the number of accounts of the unit rows and the energy rows so far. The tree stays as the unit rows left it. Assumes nothing.
 use mathlib.Core.Path.{◌≡◌}
 use mathlib.Core.List.{[]}
 use lib.ListN.{length}
@@ -9,7 +8,4 @@ use Rattle.sharing.specs.Accounts.{energy_account, unit_account}
 use Rattle.census.proofs.grown_accounts.Given as goal
 
 abbrev pub invariant-loop-i : goal.invariant-loop-i
-invariant-loop-i l = (l.i ≤ l.n) × (l.count ≡ length (named (energy_account (energy_row l.energy)) l.i (named (unit_account (unit_row l.units)) l.m [])))
-
-abbrev pub decreases-loop-i : goal.decreases-loop-i
-decreases-loop-i l = l.n - l.i
+invariant-loop-i l = l.count ≡ length (named (energy_account (energy_row l.energy)) l.i (named (unit_account (unit_row l.units)) l.m []))

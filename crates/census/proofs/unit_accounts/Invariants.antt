@@ -1,5 +1,4 @@
--- `census::unit_accounts` meets its contract. The invariant: the rows so far stand in the tree, and the count is the number of their accounts. The measure is what is left. Assumes nothing.
-use Prim.Native.Nat.{◌≤◌, ◌-◌}
+-- `census::unit_accounts` meets its contract. The invariant: the rows so far stand in the tree, and the count is the number of their accounts. Assumes nothing.
 use mathlib.Core.Path.{◌≡◌}
 use mathlib.Core.List.{[]}
 use lib.ListN.{length}
@@ -10,7 +9,4 @@ use Rattle.sharing.specs.Accounts.{unit_account}
 use Rattle.census.proofs.unit_accounts.Given as goal
 
 abbrev pub invariant-loop-u : goal.invariant-loop-u
-invariant-loop-u l = (l.u ≤ l.m) × ((l.count ≡ length (named (unit_account (unit_row l.units)) l.u [])) × Grown (unit_account (unit_row l.units)) l.u l.links)
-
-abbrev pub decreases-loop-u : goal.decreases-loop-u
-decreases-loop-u l = l.m - l.u
+invariant-loop-u l = (l.count ≡ length (named (unit_account (unit_row l.units)) l.u [])) × Grown (unit_account (unit_row l.units)) l.u l.links

@@ -8,9 +8,9 @@ use mir.Syntax.{w64}
 use borrow.Author.Rules.{sfits_of}
 use Rattle.columns.proofs.spelled_length.Goals as goal
 
-pub returns-then-are_none : goal.returns-then-are_none
-returns-then-are_none c = rw (as_number c.args.f c.args.x (sym c.are_none.ensures ∙ c.if-are_none.true)) (rw (to_z-of_z {w = w64} (sfits_of c.signed.type_inv) ∙ c.signed.ensures) at c.signed_length.ensures)
+pub returns-in-None : goal.returns-in-None
+returns-in-None c = rw (as_number c.args.f c.args.x c.in-None.is) (rw (to_z-of_z {w = w64} (sfits_of c.signed.type_inv) ∙ c.signed.ensures) at c.signed_length.ensures)
 
-pub returns : goal.returns
-returns c = let w = c.word_of.ensures in
-    (w.long ∙ ap length (sym (as_word c.args.f c.args.x (sym c.are_none.ensures ∙ c.if-are_none.false))), omega (arith, w.fits))
+pub returns-in-Some : goal.returns-in-Some
+returns-in-Some c = let w = c.word_of.ensures in
+    (ap length (w.0 ∙ sym (as_word c.args.f c.args.x c.in-Some.is)), omega (arith, w.1))

@@ -5,10 +5,10 @@ use Rattle.columns_reading.proofs.Words.{letters_none, letters_within, letters_t
 use Rattle.columns_reading.proofs.letters_to.Goals as goal
 
 pub returns-then-not-starts : goal.returns-then-not-starts
-returns-then-not-starts c = letters_none c.args.w c.args.end _ _ c.starts.ensures c.if-not-starts.true
+returns-then-not-starts c = letters_none c.args.word.now c.args.end _ _ c.starts.ensures c.if-not-starts.true
 
 pub overflow_add-at : goal.overflow_add-at
-overflow_add-at c = omega (arith, letters_within c.args.w c.args.end c.args.text.now c.args.at c.requires.has.0.long c.requires.has.1 c.starts.ensures c.if-not-starts.false)
+overflow_add-at c = omega (arith, letters_within c.args.word.now c.args.end c.args.text.now c.args.at refl c.requires.word_some c.starts.ensures c.if-not-starts.false)
 
 pub returns : goal.returns
-returns c = letters_told c.args.w c.args.end c.args.text.now c.args.at c.requires.has.0.long c.requires.has.1 c.starts.ensures c.if-not-starts.false c.requires.end_nonzero c.byte_at.ensures refl
+returns c = letters_told c.args.word.now c.args.end c.args.text.now c.args.at refl c.requires.word_some c.starts.ensures c.if-not-starts.false c.requires.end_nonzero c.byte_at.ensures refl

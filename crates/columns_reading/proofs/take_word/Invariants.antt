@@ -1,10 +1,6 @@
--- `columns_reading::take_word` meets its contract. The invariant: none of the words so far stands there. The measure is how many are left. Assumes nothing.
-use Prim.Native.Nat.{◌+◌, ◌-◌}
+-- `columns_reading::take_word` meets its contract. The invariant: none of the words so far stands there. Assumes nothing.
 use Rattle.columns_reading.proofs.Words.{NoneOf}
 use Rattle.columns_reading.proofs.take_word.Given as goal
 
 abbrev pub invariant-loop-x : goal.invariant-loop-x
 invariant-loop-x l = NoneOf l.words l.last l.end l.text l.at l.x
-
-abbrev pub decreases-loop-x : goal.decreases-loop-x
-decreases-loop-x l = l.last + 1 - l.x

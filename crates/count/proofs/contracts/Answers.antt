@@ -1,12 +1,7 @@
--- `count::contracts` meets its contract. The invariant: the lines of the contracts so far are counted. The measure is what is left. Assumes nothing.
-use Prim.Native.Nat.{◌-◌}
-use native.Mathlib.Omega.{arith}
-use Rattle.records.specs.Rows.{contract_row}
-use Rattle.count.proofs.Counting.{contracts_none, contracts_more}
+-- `count::contracts` meets its contract. Each contract's lines are counted, whatever the energies. Assumes nothing.
+use Rattle.std.proofs.Common.{of_calls}
+use Rattle.count.proofs.Counting.{contracts_counted}
 use Rattle.count.proofs.contracts.Goals as goal
 
-pub loop-i-init : goal.loop-i-init
-loop-i-init c = (omega arith, contracts_none _)
-
-pub loop-i-preserved : goal.loop-i-preserved
-loop-i-preserved c = (omega arith, contracts_more _ _ c.loop-i.invariant.1 c.contract_row.ensures c.contract_count-lines.ensures)
+pub returns : goal.returns
+returns c = contracts_counted _ _ _ (λ i y l e. search (of_calls, e)) c.sum.ensures.total c.sum.ensures.bound

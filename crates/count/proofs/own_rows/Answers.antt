@@ -1,12 +1,12 @@
--- `count::own_rows` meets its contract. The invariant: the account's rows so far are counted. The measure is what is left. Assumes nothing.
-use Prim.Native.Nat.{◌-◌}
+-- `count::own_rows` meets its contract. Of each row the account's test is a number. Assumes nothing.
+use mathlib.Core.Path.{refl}
 use native.Mathlib.Omega.{arith}
-use Rattle.sections.proofs.Total.{total_none, total_more}
+use Rattle.std.proofs.Common.{of_calls}
 use Rattle.count.proofs.Counting.{own_told}
 use Rattle.count.proofs.own_rows.Goals as goal
 
-pub loop-i-init : goal.loop-i-init
-loop-i-init c = (omega arith, (total_none _, omega arith))
-
-pub loop-i-preserved : goal.loop-i-preserved
-loop-i-preserved c = (omega arith, (total_more _ _ c.loop-i.invariant.1.0 (own_told _ _ _ c.unit_row-q.ensures c.one_if-own.ensures.0), omega (arith, c.one_if-own.ensures.1, c.loop-i.invariant.1.1)))
+pub returns : goal.returns
+returns c = (
+  c.sum.ensures.total _ (λ u x l e. (own_told _ _ u refl (search (of_calls, e))).0),
+  omega (arith, c.sum.ensures.bound 1 (λ u x l e. search (of_calls, e))),
+)

@@ -4,6 +4,7 @@ use Rattle.std.specs.Prelude.{ℕ, cond, List, [], ◌∷◌, ◌++◌, eqb, ◌
 use Rattle.numbers.specs.Sign.{less}
 use Rattle.ground.specs.Units.{million}
 use Rattle.rules.specs.Rules.{factor_of}
+use Rattle.records.specs.declared.rows.Entry.{Entry}
 use Rattle.records.specs.declared.rows.Constraint.{Constraint}
 use Rattle.records.specs.declared.rows.Contract.{Contract}
 use Rattle.totals.specs.Divisors.{over_regions}
@@ -13,12 +14,15 @@ use Rattle.amounts.specs.Pools.{pools_of, residual_pools}
 use Rattle.accounts.specs.Rows.{joined}
 use Rattle.accounts.specs.Inner.Energies.{energies_of}
 use Rattle.sharing.specs.Inner.Shares.{part_cut}
+use Rattle.sharing.specs.declared.shares.Part.{Part}
 use Rattle.recovery.specs.ByKind.{pool_by, credit_by, charge_by}
 use Rattle.recovery.specs.Inner.Shapes.{unit_cut_above, unit_cut_below, consumed_part, sent_part, shared_cut}
 use Rattle.recovery.specs.declared.kinds.Kind.{Kind}
 use Rattle.cutoffs.specs.Cutoffs.{pool_stage, residual_stage, whole_stage, half_stage}
 use Rattle.cutoffs.specs.declared.Stage.TheVariants.{Line, Unit, Share, Ace, Asoe}
 use Rattle.cutoffs.specs.declared.Cut.{Cut}
+use Rattle.cutoffs.specs.declared.contracts.Side.{Side}
+use Rattle.cutoffs.specs.declared.contracts.Side.TheVariants.{Consumed, SentOut}
 
 -- ---- a constraint's
 
@@ -52,6 +56,11 @@ unfoldable pub constraint_shapes : Book → Constraint → Kind → List Cut
 constraint_shapes B r kind = cond (eqb r.mode 0) (line_shape (energies_of B) r ∷ []) (regulation_shapes B r kind)
 
 -- ---- a contract's, by the energies of the book that settles it
+
+-- a half of region g's part, as its lines share it
+unfoldable pub half_part : Side → (ℕ → Entry) → Contract → ℕ → Part
+half_part Consumed entry k g = consumed_part entry k g
+half_part SentOut entry k g = sent_part entry k g
 
 unfoldable pub ace_shape : Energies → Contract → ℕ → Cut
 ace_shape E k g =

@@ -1,15 +1,15 @@
 -- `decimal_reading::take_number` meets its contract. The digits before the point, then the rest. Assumes nothing.
-use borrow.Author.Tests.{not-true, not-false}
-use Rattle.decimal_reading.proofs.Taking.{front_room, number_none, number_decided}
+use Rattle.decimal_reading.proofs.Taking.{front_room, number_none, number_bare, number_decided}
 use Rattle.decimal_reading.proofs.take_number.Goals as goal
 
-pub returns-then-not-w : goal.returns-then-not-w
-returns-then-not-w c = number_none c.requires.decimals_bound.0 c.requires.decimals_bound.1 c.requires.end_nonzero.0 c.take_whole-w.ensures (not-true _ c.if-not-w.true)
+pub take_rest-requires-clause-v_le_far : goal.take_rest-requires-clause-v_le_far
+take_rest-requires-clause-v_le_far c = let w = c.in_ok-w.ensures in (w.whole.small, front_room c.args.decimals c.requires.decimals_bound.0 w)
 
-pub take_rest-x-requires : goal.take_rest-x-requires
-take_rest-x-requires c = let w = c.take_whole-w.ensures.found (not-false _ c.if-not-w.false) in record { at_in_bounds = (w.inside, w.whole.field.stop); v_le_far = (w.whole.small, front_room c.args.decimals c.requires.decimals_bound.0 w); end_nonzero = c.requires.end_nonzero }
+pub returns-in_err-w : goal.returns-in_err-w
+returns-in_err-w c = rw c.from_residual.ensures (number_none c.requires.decimals_bound.0 c.requires.decimals_bound.1 c.requires.end_nonzero.0 c.in_err-w.ensures)
+
+pub returns-in_err-x : goal.returns-in_err-x
+returns-in_err-x c = rw c.from_residual-in_err-x.ensures (number_bare c.requires.decimals_bound.0 c.requires.decimals_bound.1 c.requires.end_nonzero.0 c.in_ok-w.ensures c.in_err-x.ensures)
 
 pub returns : goal.returns
-returns c = number_decided c.requires.decimals_bound.0 c.requires.decimals_bound.1 c.requires.end_nonzero.0
-    (c.take_whole-w.ensures.found (not-false _ c.if-not-w.false))
-    c.take_rest-x.ensures
+returns c = rw c.then_some.ensures (number_decided c.requires.decimals_bound.0 c.requires.decimals_bound.1 c.requires.end_nonzero.0 c.in_ok-w.ensures _ c.in_ok-x.ensures)

@@ -1,5 +1,5 @@
 -- What the steps of a reader look for.
-use Rattle.std.specs.Prelude.{ℕ, ◌+◌, ◌-◌, ◌≤◌, ◌<◌, ◌≡◌, List, Bool, not, ◌&&◌, ◌||◌, ltb, eqb, length}
+use Rattle.std.specs.Prelude.{ℕ, ◌+◌, ◌-◌, ◌<◌, ◌≡◌, List, Bool, not, ◌&&◌, ◌||◌, ltb, eqb, length}
 use Rattle.std.specs.Bool.{beq}
 use Rattle.ground.specs.Bytes.{byte_at}
 use Rattle.decimal.specs.Standing.{Number}

@@ -1,5 +1,5 @@
--- `dispatch::last_sum` meets its contract. The invariant: the rows passed so far, with those before them, come to the last row's sum. The measure is
--- what is left. Assumes nothing.
+-- `dispatch::last_sum` meets its contract. The invariant: the rows passed so far, with those before them, come to the last row's sum.
+-- Assumes nothing.
 use native.Mathlib.Omega.{arith}
 use Rattle.dispatch.proofs.Turns.{last_limit}
 use Rattle.dispatch.proofs.Last.{back_start, back_more, back_stop, back_all}

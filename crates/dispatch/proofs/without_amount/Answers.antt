@@ -1,11 +1,9 @@
 -- `dispatch::without_amount` meets its contract. The case decides. Assumes nothing.
+use Rattle.std.proofs.lemmas.Grind.{common_steps}
+use Rattle.std.proofs.Common.{arith}
 use Rattle.dispatch.specs.Inner.Pass.{amountless}
 use Rattle.dispatch.proofs.without_amount.Goals as goal
 
-pub returns-in-Amount : goal.returns-in-Amount
+pub returns : goal.returns
 unfolding amountless
-returns-in-Amount c = rw c.in-Amount.is
-
-pub returns-in-Refused : goal.returns-in-Refused
-unfolding amountless
-returns-in-Refused c = rw c.in-Refused.is
+returns c = grind (arith, common_steps)

@@ -1,5 +1,5 @@
 -- The energy rows that a pass takes, and their sums. Only contracts of inner functions speak of these.
-use Rattle.std.specs.Prelude.{ℕ, ◌+◌, ◌*◌, ◌≤◌, ◌<◌, ◌≡◌, Bool, true, false, ◌&&◌, eqb, leb, ltb}
+use Rattle.std.specs.Prelude.{ℕ, ◌+◌, ◌*◌, ◌<◌, ◌≡◌, Bool, true, ◌&&◌, eqb, leb, ltb}
 use Rattle.sections.specs.Order.{rises_by}
 use Rattle.rules.specs.Rules.{energy_below}
 use Rattle.records.specs.declared.rows.EnergyRow.{EnergyRow}
@@ -19,9 +19,11 @@ row_holds before r =
 abbrev pub row_keeps : (ℕ → EnergyRow) → ℕ → Bool
 row_keeps energy i = row_holds 4_294_967_295 (energy i) && rises_by energy_below energy i
 
--- of n rows the first i are taken, which hold but for the limit of their energies, and the next, if there is one, does not; t has their sums
-pub record SummedIs (energy : ℕ → EnergyRow) (n i : ℕ) (t : Totals) : Type 0 where
-  pub high : i ≤ n
-  pub each : (j : ℕ) → j < i → row_keeps energy j ≡ true
-  pub ended : i < n → row_keeps energy i ≡ false
-  pub sums : TotalsOf energy i t
+-- each of n rows holds but for the limit of its energies
+abbrev pub EachKeeps : (ℕ → EnergyRow) → ℕ → Type 0
+EachKeeps energy n = (i : ℕ) → i < n → row_keeps energy i ≡ true
+
+-- so it is of these rows, and t has their sums
+pub record AllSummed (energy : ℕ → EnergyRow) (n : ℕ) (t : Totals) : Type 0 where
+  pub each : EachKeeps energy n
+  pub sums : TotalsOf energy n t

@@ -1,7 +1,8 @@
 -- The sums over a run of unit rows. Only contracts of inner functions speak of these.
-use Rattle.std.specs.Prelude.{ℕ, ◌+◌, ◌≤◌, ◌<◌, ◌≡◌}
+use Rattle.std.specs.Prelude.{ℕ, ◌+◌, ◌-◌, ◌≤◌, ◌<◌, ◌≡◌, Bool, true, false, cond, leb, ltb}
 use Rattle.sections.specs.Inner.Order.{Keeps}
 use Rattle.sections.specs.Inner.Walk.{Past}
+use Rattle.sections.specs.Total.{total}
 use Rattle.rules.specs.Inner.Facts.{UnitRule}
 use Rattle.records.specs.declared.rows.UnitRow.{UnitRow}
 use Rattle.factors.specs.declared.sums.Sums.{Sums}
@@ -29,6 +30,26 @@ of_sums default t = t.dcf
 pub record FactorsAdded (t : Sums) (r : UnitRow) (x : Sums) : Type 0 where
   pub next : x.next ≡ t.next + 1
   pub sum : (c : Factor) → of_sums c x ≡ of_sums c t + of_row c r
+
+-- each answer that a test may give of a row, and of the unit of the row before it, is this one
+abbrev pub TestsAs : (UnitRow → ℕ → Bool → Type 0) → (UnitRow → ℕ → Bool) → Type 0
+TestsAs post test = (r : UnitRow) (last : ℕ) (b : Bool) → post r last b → b ≡ test r last
+
+-- the unit of the row before row u in a run that begins at place `start`: 0 for its first row
+unfoldable pub unit_before : (ℕ → UnitRow) → ℕ → ℕ → ℕ
+unit_before unit start u = cond (ltb start u) (unit (u - 1)).unit 0
+
+-- a factor's sum over the rows from place `start` up to place n
+abbrev pub sum_from : (ℕ → UnitRow) → ℕ → ℕ → Factor → ℕ
+sum_from unit start n c = total (λ u. cond (leb start u) (of_row c (unit u)) 0) n
+
+-- the rows from place `start` up to the next belong to the run by the test, the next, if there is one, does not, and the sums are theirs
+pub record RunBy (test : UnitRow → ℕ → Bool) (unit : ℕ → UnitRow) (m start : ℕ) (t : Sums) : Type 0 where
+  pub low : start ≤ t.next
+  pub high : t.next ≤ m
+  pub each : (u : ℕ) → start ≤ u → u < t.next → test (unit u) (unit_before unit start u) ≡ true
+  pub ended : t.next < m → test (unit t.next) (unit_before unit start t.next) ≡ false
+  pub sum : (c : Factor) → of_sums c t ≡ sum_from unit start t.next c
 
 -- the sums over a run are those over all rows, and the run is over
 pub record RunOf (unit : ℕ → UnitRow) (m k : ℕ) (x : Sums) : Type 0 where

@@ -8,14 +8,14 @@ use Rattle.joint.proofs.energy_adds.Goals as goal
 pub returns-then-goes_on : goal.returns-then-goes_on
 unfolding energy_adds
 returns-then-goes_on c = let args = c.args in
-    known_before (energy_account (energies_of args.locked.now args.q)) _ (accounts_of args.book.now args.p) c.goes_on.ensures c.if-goes_on.true
+    known_before (energy_account (energies_of args.locked.now.book.now args.locked.now.rows)) _ (accounts_of args.first.now.named.book.now args.first.now.named.rows) c.goes_on.ensures c.if-goes_on.true
 
 pub returns-then-in_book : goal.returns-then-in_book
 unfolding energy_adds
 returns-then-in_book c = let args = c.args in
-    known_other (energy_account (energies_of args.locked.now args.q)) _ (accounts_of args.book.now args.p) c.energy_account.ensures c.in_book.ensures c.if-in_book.true
+    known_other (energy_account (energies_of args.locked.now.book.now args.locked.now.rows)) _ (accounts_of args.first.now.named.book.now args.first.now.named.rows) c.energy_account.ensures c.in_book.ensures c.if-in_book.true
 
 pub returns : goal.returns
 unfolding energy_adds
 returns c = let args = c.args in
-    known_new (energy_account (energies_of args.locked.now args.q)) _ (accounts_of args.book.now args.p) c.goes_on.ensures c.if-goes_on.false c.energy_account.ensures c.in_book.ensures c.if-in_book.false
+    known_new (energy_account (energies_of args.locked.now.book.now args.locked.now.rows)) _ (accounts_of args.first.now.named.book.now args.first.now.named.rows) c.goes_on.ensures c.if-goes_on.false c.energy_account.ensures c.in_book.ensures c.if-in_book.false

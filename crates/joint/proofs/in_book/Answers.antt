@@ -5,8 +5,8 @@ use Rattle.joint.proofs.in_book.Goals as goal
 
 pub returns-then-in_units : goal.returns-then-in_units
 returns-then-in_units c = let args = c.args in
-    in_units (energies_of args.book.now args.p) _ (units_of args.book.now args.p) _ _ c.in_units.ensures c.if-in_units.true
+    in_units (energies_of args.book.now.named.book.now args.book.now.named.rows) _ (units_of args.book.now.named.book.now args.book.now.named.rows) _ _ c.in_units.ensures c.if-in_units.true
 
 pub returns : goal.returns
 returns c = let args = c.args in
-    in_energies (energies_of args.book.now args.p) _ (units_of args.book.now args.p) _ _ c.in_units.ensures c.if-in_units.false c.in_energies.ensures
+    in_energies (energies_of args.book.now.named.book.now args.book.now.named.rows) _ (units_of args.book.now.named.book.now args.book.now.named.rows) _ _ c.in_units.ensures c.if-in_units.false c.in_energies.ensures

@@ -1,5 +1,5 @@
--- `joint::units_add` meets its contract. The invariant: the rows so far stand in the tree, the count is what they add, and w is what is left of a word that was begun. The measure is what is left. Assumes nothing.
-use Prim.Native.Nat.{◌-◌, ◌%◌, ◌≤◌}
+-- `joint::units_add` meets its contract. The invariant: the rows so far stand in the tree, the count is what they add, and w is what is left of a word that was begun. Assumes nothing.
+use Prim.Native.Nat.{◌%◌}
 use mathlib.Core.Path.{◌≡◌}
 use Rattle.sections.specs.Total.{total}
 use Rattle.census.specs.Inner.Tree.{Grown}
@@ -11,8 +11,5 @@ use Rattle.joint.proofs.units_add.Given as goal
 
 abbrev pub invariant-loop-u : goal.invariant-loop-u
 invariant-loop-u l =
-    ((l.u ≤ l.q.m) × (l.count ≡ total (λ v. unit_adds l.locked l.q (marked l.marks v) v) l.u))
-    × (Grown (unit_account (units_of l.locked l.q)) l.u l.links × ((l.u % 64 ≡ 0 → ⊥) → l.w ≡ left_for l.marks l.u))
-
-abbrev pub decreases-loop-u : goal.decreases-loop-u
-decreases-loop-u l = l.q.m - l.u
+    (l.count ≡ total (λ v. unit_adds l.locked.book.now l.locked.rows (marked l.marks v) v) l.u)
+    × (Grown (unit_account (units_of l.locked.book.now l.locked.rows)) l.u l.links × ((l.u % 64 ≡ 0 → ⊥) → l.w ≡ left_for l.marks l.u))

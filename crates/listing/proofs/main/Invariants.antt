@@ -1,5 +1,5 @@
 -- What is read so far fits. The measure is the room that is left.
-use Rattle.std.proofs.Common.{◌-◌, ◌≤◌, length}
+use Rattle.std.proofs.Common.{◌-◌, ◌≤◌}
 use Rattle.listing.proofs.main.Given as goal
 
 abbrev pub invariant-loop-n : goal.invariant-loop-n

@@ -2,8 +2,8 @@
 use Rattle.locking.proofs.Tests.{no_test, a_test}
 use Rattle.locking.proofs.settles_tests.Goals as goal
 
-pub returns-in-Good : goal.returns-in-Good
-returns-in-Good c = rw (no_test _ _ c.first_test.ensures c.in-Good.is)
+pub returns-in-None : goal.returns-in-None
+returns-in-None c = rw (no_test _ _ c.first_test.ensures c.in-None.is)
 
-pub returns-in-Bad : goal.returns-in-Bad
-returns-in-Bad c = rw (a_test _ _ _ c.first_test.ensures c.in-Bad.is)
+pub returns-in-Some : goal.returns-in-Some
+returns-in-Some c = rw (a_test _ _ _ c.first_test.ensures c.in-Some.is)

@@ -1,5 +1,5 @@
 -- What a search for a line answers, and what it rests on.
-use Rattle.std.specs.Prelude.{ℕ, ◌<◌, ◌≡◌, cond, List, [], ◌∷◌, eqb}
+use Rattle.std.specs.Prelude.{ℕ, ◌<◌, ◌≡◌, cond, List, [], ◌∷◌, eqb, Result, Ok, Err}
 use Rattle.ground.specs.Nth.{found, past, nth}
 use Rattle.sections.specs.Inner.Walk.{Past}
 use Rattle.rules.specs.Inner.Facts.{EntryRule, ConstraintRule}
@@ -14,13 +14,12 @@ use Rattle.amounts.specs.Pools.{pools_of, residual_pools}
 use Rattle.statement.specs.declared.Line.{Line}
 use Rattle.lines.specs.Lines.{contingency_line, rest_lines}
 use Rattle.lines.specs.Inner.Shared.{Shared}
-use Rattle.lookup.specs.declared.constraint.Sought.{Sought}
-use Rattle.lookup.specs.declared.constraint.Sought.TheVariants as sought
+use Rattle.lookup.specs.declared.constraint.Passed.{Passed}
 
 -- an answer is that of the number among lines ls of constraint r, and where they are passed, the search stands behind its unit rows
-unfoldable pub SoughtIn : (ℕ → UnitRow) → ℕ → Constraint → List Line → ℕ → Sought → Type 0
-SoughtIn unit m r ls number (sought.Line l) = nth ls number ≡ found l
-SoughtIn unit m r ls number (sought.Past next left) = Past (key_of unit) m r.id next × (nth ls number ≡ past left)
+unfoldable pub SoughtIn : (ℕ → UnitRow) → ℕ → Constraint → List Line → ℕ → Result Line Passed → Type 0
+SoughtIn unit m r ls number (Ok l) = nth ls number ≡ found l
+SoughtIn unit m r ls number (Err p) = Past (key_of unit) m r.id p.row × (nth ls number ≡ past p.left)
 
 -- the lines that a constraint has besides those of its unit rows; o and t are the account's energy and the total over its regions
 unfoldable pub other_lines : Constraint → ℕ → ℕ → List Line

@@ -5,25 +5,31 @@ use Rattle.nmas.proofs.Fields.{run_none, run_room, run_on}
 use Rattle.nmas.proofs.put_middle.Goals as goal
 
 pub put_cell-v-requires : goal.put_cell-v-requires
-put_cell-v-requires c = let field = held c.args.fields.now in
-    record { column_bound = (omega arith, c.requires.by_index 6 (omega arith)); x_in_bounds = run_room field 6 0 (run_none field 6 c.args.text.now c.args.at) 5 (omega arith) c.requires.fields_in_bounds }
+put_cell-v-requires g c = let field = held c.args.fields.now in
+    let turn = g.met.P.Puts.in_turn in
+    record { column_bound = (omega arith, c.requires.by_index 6 (omega arith)); x_in_bounds = run_room field turn 6 0 (run_none field turn 6 c.args.text.now c.args.at) 5 (omega arith) c.requires.fields_in_bounds }
 
 pub put_cell-w-requires : goal.put_cell-w-requires
-put_cell-w-requires c = let field = held c.args.fields.now in
-    record { column_bound = (omega arith, c.requires.by_index 7 (omega arith)); x_in_bounds = run_room field 6 1 (run_on field 6 0 (run_none field 6 c.args.text.now c.args.at) c.put_cell-v.ensures) 5 (omega arith) c.requires.fields_in_bounds }
+put_cell-w-requires g c = let field = held c.args.fields.now in
+    let turn = g.met.P.Puts.in_turn in
+    record { column_bound = (omega arith, c.requires.by_index 7 (omega arith)); x_in_bounds = run_room field turn 6 1 (run_on field turn 6 0 (run_none field turn 6 c.args.text.now c.args.at) c.put_cell-v.ensures) 5 (omega arith) c.requires.fields_in_bounds }
 
 pub put_cell-x-requires : goal.put_cell-x-requires
-put_cell-x-requires c = let field = held c.args.fields.now in
-    record { column_bound = (omega arith, c.requires.by_index 8 (omega arith)); x_in_bounds = run_room field 6 2 (run_on field 6 1 (run_on field 6 0 (run_none field 6 c.args.text.now c.args.at) c.put_cell-v.ensures) c.put_cell-w.ensures) 5 (omega arith) c.requires.fields_in_bounds }
+put_cell-x-requires g c = let field = held c.args.fields.now in
+    let turn = g.met.P.Puts.in_turn in
+    record { column_bound = (omega arith, c.requires.by_index 8 (omega arith)); x_in_bounds = run_room field turn 6 2 (run_on field turn 6 1 (run_on field turn 6 0 (run_none field turn 6 c.args.text.now c.args.at) c.put_cell-v.ensures) c.put_cell-w.ensures) 5 (omega arith) c.requires.fields_in_bounds }
 
 pub put_cell-y-requires : goal.put_cell-y-requires
-put_cell-y-requires c = let field = held c.args.fields.now in
-    record { column_bound = (omega arith, c.requires.by_index 9 (omega arith)); x_in_bounds = run_room field 6 3 (run_on field 6 2 (run_on field 6 1 (run_on field 6 0 (run_none field 6 c.args.text.now c.args.at) c.put_cell-v.ensures) c.put_cell-w.ensures) c.put_cell-x.ensures) 5 (omega arith) c.requires.fields_in_bounds }
+put_cell-y-requires g c = let field = held c.args.fields.now in
+    let turn = g.met.P.Puts.in_turn in
+    record { column_bound = (omega arith, c.requires.by_index 9 (omega arith)); x_in_bounds = run_room field turn 6 3 (run_on field turn 6 2 (run_on field turn 6 1 (run_on field turn 6 0 (run_none field turn 6 c.args.text.now c.args.at) c.put_cell-v.ensures) c.put_cell-w.ensures) c.put_cell-x.ensures) 5 (omega arith) c.requires.fields_in_bounds }
 
 pub put_cell-requires : goal.put_cell-requires
-put_cell-requires c = let field = held c.args.fields.now in
-    record { column_bound = (omega arith, c.requires.by_index 10 (omega arith)); x_in_bounds = run_room field 6 4 (run_on field 6 3 (run_on field 6 2 (run_on field 6 1 (run_on field 6 0 (run_none field 6 c.args.text.now c.args.at) c.put_cell-v.ensures) c.put_cell-w.ensures) c.put_cell-x.ensures) c.put_cell-y.ensures) 5 (omega arith) c.requires.fields_in_bounds }
+put_cell-requires g c = let field = held c.args.fields.now in
+    let turn = g.met.P.Puts.in_turn in
+    record { column_bound = (omega arith, c.requires.by_index 10 (omega arith)); x_in_bounds = run_room field turn 6 4 (run_on field turn 6 3 (run_on field turn 6 2 (run_on field turn 6 1 (run_on field turn 6 0 (run_none field turn 6 c.args.text.now c.args.at) c.put_cell-v.ensures) c.put_cell-w.ensures) c.put_cell-x.ensures) c.put_cell-y.ensures) 5 (omega arith) c.requires.fields_in_bounds }
 
 pub returns : goal.returns
-returns c = let field = held c.args.fields.now in
-    run_on field 6 4 (run_on field 6 3 (run_on field 6 2 (run_on field 6 1 (run_on field 6 0 (run_none field 6 c.args.text.now c.args.at) c.put_cell-v.ensures) c.put_cell-w.ensures) c.put_cell-x.ensures) c.put_cell-y.ensures) c.put_cell.ensures
+returns g c = let field = held c.args.fields.now in
+    let turn = g.met.P.Puts.in_turn in
+    run_on field turn 6 4 (run_on field turn 6 3 (run_on field turn 6 2 (run_on field turn 6 1 (run_on field turn 6 0 (run_none field turn 6 c.args.text.now c.args.at) c.put_cell-v.ensures) c.put_cell-w.ensures) c.put_cell-x.ensures) c.put_cell-y.ensures) c.put_cell.ensures

@@ -1,10 +1,11 @@
--- `nmas::row_length` meets its contract. Three runs of fields are the row. Assumes nothing.
+-- `nmas::row_length` meets its contract. The row is measured from 0 on, and has at most 171 bytes. Assumes nothing.
 use native.Mathlib.Omega.{arith}
-use Rattle.nmas.proofs.Fields.{row_long}
+use Rattle.nmas.specs.Inner.Cells.{held}
+use Rattle.nmas.proofs.Wide.{row_wide}
 use Rattle.nmas.proofs.row_length.Goals as goal
 
+pub put_row-requires : goal.put_row-requires
+put_row-requires c = record { by_index = c.requires; fields_in_bounds = record { fits = omega (arith, row_wide (held c.args.fields.now) c.requires) } }
+
 pub returns : goal.returns
-returns c = let rest = c.rest_length.ensures in
-    let middle = c.middle_length.ensures in
-    let front = c.front_length.ensures in
-    (row_long _ front.0 middle.0 rest.0, omega (arith, front.1, middle.1, rest.1))
+returns c = (omega (arith, c.put_row.ensures.next), omega (arith, c.put_row.ensures.next, row_wide (held c.args.fields.now) c.requires))

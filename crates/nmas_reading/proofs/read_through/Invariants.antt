@@ -1,4 +1,4 @@
--- `nmas_reading::read_through` meets its contract. The invariant: the text so far is rows, and the one that is asked for is kept. The measure is what is left of the text. Assumes nothing.
+-- `nmas_reading::read_through` meets its contract. The invariant: the text so far is rows, and where the one that is asked for begins is kept. The measure is what is left of the text. Assumes nothing.
 use Prim.Native.Nat.{◌-◌}
 use mathlib.Core.Path.{◌≡◌}
 use lib.ListN.{length}

@@ -1,10 +1,10 @@
 -- `nmas_reading::rows` meets its contract. The walk says all of it. Assumes nothing.
-use borrow.Author.Tests.{not-true, not-false}
+use Rattle.std.proofs.lemmas.Result.{err_from_is_err_and}
 use Rattle.nmas_reading.proofs.Texts.{rows_refused, rows_given}
 use Rattle.nmas_reading.proofs.rows.Goals as goal
 
-pub returns-then-not-w : goal.returns-then-not-w
-returns-then-not-w c = rows_refused c.read_through-w.ensures (not-true _ c.if-not-w.true)
+pub returns-in_err-w : goal.returns-in_err-w
+returns-in_err-w c = let p = err_from_is_err_and c.from_residual.result c.from_residual.ensures.1 in rw (p.1, p.2) (rows_refused c.in_err-w.ensures.walked)
 
 pub returns : goal.returns
-returns c = rows_given c.read_through-w.ensures (not-false _ c.if-not-w.false)
+returns c = rows_given c.in_ok-w.ensures.walked

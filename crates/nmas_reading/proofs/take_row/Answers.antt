@@ -1,11 +1,9 @@
 -- `nmas_reading::take_row` meets its contract. Seventeen fields, and what is asked of them together. Assumes nothing.
-use borrow.Author.Tests.{not-true, not-false}
-use mathlib.Core.Path.{refl}
 use Rattle.nmas_reading.proofs.OneRow.{row_none, row_decided}
 use Rattle.nmas_reading.proofs.take_row.Goals as goal
 
-pub returns-then-not-end : goal.returns-then-not-end
-returns-then-not-end c = record { fields_len = c.take_fields-end.ensures.fields_len; decides = row_none c.take_fields-end.ensures.fields_found (not-true _ c.if-not-end.true) }
+pub returns-in_err-end : goal.returns-in_err-end
+returns-in_err-end c = record { fields_len = c.in_err-end.ensures.fields_len; row_found = rw c.from_residual.ensures (row_none c.in_err-end.ensures.fields_found) }
 
 pub returns : goal.returns
-returns c = record { fields_len = c.take_fields-end.ensures.fields_len; decides = row_decided c.take_fields-end.new.fields (c.take_fields-end.ensures.fields_found.found (not-false _ c.if-not-end.false)) c.keeps.ensures refl }
+returns c = record { fields_len = c.in_ok-end.ensures.fields_len; row_found = rw c.then_some.ensures (row_decided _ c.in_ok-end.ensures.fields_found c.keeps.ensures) }

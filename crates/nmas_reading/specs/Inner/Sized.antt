@@ -1,8 +1,7 @@
 -- A row whose amounts and energies a number with a sign can hold.
-use Rattle.std.specs.Prelude.{◌^◌, ◌<◌}
+use Rattle.std.specs.Prelude.{◌^◌, ◌<◌, Result, Ok, Err}
+use Rattle.sections.specs.declared.Refusal.{Refusal}
 use Rattle.nmas.specs.declared.Row.{Row}
-use Rattle.nmas_reading.specs.declared.RowRead.{RowRead}
-use Rattle.nmas_reading.specs.declared.RowRead.TheVariants as row
 
 pub record Sized (r : Row) : Type 0 where
   pub recovery : r.recovery < 2 ^ 63
@@ -14,6 +13,6 @@ pub record Sized (r : Row) : Type 0 where
   pub by_asoe : r.by_asoe < 2 ^ 63
 
 -- that of an answer, where it has one
-unfoldable pub RowSized : RowRead → Type 0
-RowSized (row.Row r) = Sized r
-RowSized (row.Refused number place) = Unit
+unfoldable pub RowSized : Result Row Refusal → Type 0
+RowSized (Ok r) = Sized r
+RowSized (Err e) = Unit

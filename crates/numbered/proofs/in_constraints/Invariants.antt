@@ -1,5 +1,5 @@
--- `numbered::in_constraints` meets its contract. The invariant: the lines of the constraints so far are passed, and the search stands at the first row of the next one, since each row names a constraint and the ids rise. The measure is what is left. Assumes nothing.
-use Prim.Native.Nat.{◌≤◌, ◌<◌, ◌-◌}
+-- `numbered::in_constraints` meets its contract. The invariant: the lines of the constraints so far are passed, and the search stands at the first row of the next one, since each row names a constraint and the ids rise. Assumes nothing.
+use Prim.Native.Nat.{◌<◌}
 use mathlib.Core.Path.{◌≡◌}
 use Rattle.ground.specs.Nth.{past, nth}
 use Rattle.sections.specs.Inner.Walk.{Stands}
@@ -10,7 +10,4 @@ use Rattle.lines.specs.Inner.Walks.{con_lines_at}
 use Rattle.numbered.proofs.in_constraints.Given as goal
 
 abbrev pub invariant-loop-j : goal.invariant-loop-j
-invariant-loop-j l = (l.j ≤ l.n) × ((nth (joined (con_lines_at (entry_row l.regions) (constraint_row l.cons) (unit_row l.units) l.m l.account l.own) l.j) l.number ≡ past l.left) × (l.j < l.n → Stands (key_of (unit_row l.units)) l.m (id_of (constraint_row l.cons) l.j) l.row))
-
-abbrev pub decreases-loop-j : goal.decreases-loop-j
-decreases-loop-j l = l.n - l.j
+invariant-loop-j l = (nth (joined (con_lines_at (entry_row l.regions) (constraint_row l.cons) (unit_row l.units) l.m l.account l.own) l.j) l.number ≡ past l.left) × (l.j < l.n → Stands (key_of (unit_row l.units)) l.m (id_of (constraint_row l.cons) l.j) l.row)

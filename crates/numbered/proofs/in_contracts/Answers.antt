@@ -1,6 +1,4 @@
--- `numbered::in_contracts` meets its contract. The invariant: the lines of the contracts so far are passed. The measure is what is left. Assumes nothing.
-use Prim.Native.Nat.{◌-◌}
-use native.Mathlib.Omega.{arith}
+-- `numbered::in_contracts` meets its contract. The invariant: the lines of the contracts so far are passed. Assumes nothing.
 use Rattle.ground.specs.Bytes.{part_from}
 use Rattle.records.specs.Rows.{entry_row}
 use Rattle.lookup.proofs.Answered.{past_told}
@@ -9,13 +7,13 @@ use Rattle.numbered.proofs.Records.{paid_found, paid_passed}
 use Rattle.numbered.proofs.in_contracts.Goals as goal
 
 pub loop-i-init : goal.loop-i-init
-loop-i-init c = (omega arith, pass_none _ _)
+loop-i-init c = pass_none _ _
 
-pub returns-in-Line : goal.returns-in-Line
-returns-in-Line c = paid_found (entry_row (part_from 24 c.args.book.now)) (entry_row (part_from 24 c.args.locked.now)) c.args.own _ _ _ c.loop-i.invariant.1 c.contract_row-k.ensures c.in_contract.ensures _ c.loop-i-test.true c.in-Line.is
+pub returns-in-Ok : goal.returns-in-Ok
+returns-in-Ok c = paid_found (entry_row (part_from 24 c.args.book.now)) (entry_row (part_from 24 c.args.locked.now)) c.args.own _ _ _ c.loop-i.invariant c.contract_row-k.ensures c.in_contract.ensures _ c.loop-i-test.true c.in-Ok.is
 
 pub loop-i-preserved : goal.loop-i-preserved
-loop-i-preserved c = (omega arith, paid_passed (entry_row (part_from 24 c.args.book.now)) (entry_row (part_from 24 c.args.locked.now)) c.args.own _ _ _ c.loop-i.invariant.1 c.contract_row-k.ensures c.in_contract.ensures c.in-Past.is)
+loop-i-preserved c = paid_passed (entry_row (part_from 24 c.args.book.now)) (entry_row (part_from 24 c.args.locked.now)) c.args.own _ _ _ c.loop-i.invariant c.contract_row-k.ensures c.in_contract.ensures c.in-Err.is
 
 pub returns : goal.returns
-returns c = past_told _ _ (pass_all _ _ _ c.loop-i.invariant.1 _ c.loop-i.invariant.0 c.loop-i-test.false)
+returns c = past_told _ _ (pass_all _ _ _ c.loop-i.invariant _ c.loop-i.auto.i-end c.loop-i-test.false)

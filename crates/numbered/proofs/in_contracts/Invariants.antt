@@ -1,5 +1,4 @@
--- `numbered::in_contracts` meets its contract. The invariant: the lines of the contracts so far are passed. The measure is what is left. Assumes nothing.
-use Prim.Native.Nat.{◌≤◌, ◌-◌}
+-- `numbered::in_contracts` meets its contract. The invariant: the lines of the contracts so far are passed. Assumes nothing.
 use mathlib.Core.Path.{◌≡◌}
 use Rattle.ground.specs.Bytes.{part_from}
 use Rattle.ground.specs.Nth.{past, nth}
@@ -9,7 +8,4 @@ use Rattle.lines.specs.Inner.Walks.{contract_lines_at, totals_from, own_from}
 use Rattle.numbered.proofs.in_contracts.Given as goal
 
 abbrev pub invariant-loop-i : goal.invariant-loop-i
-invariant-loop-i l = (l.i ≤ l.n) × (nth (joined (contract_lines_at (totals_from (entry_row (part_from 24 l.book)) (entry_row (part_from 24 l.locked))) (own_from l.own) (contract_row l.contracts)) l.i) l.number ≡ past l.left)
-
-abbrev pub decreases-loop-i : goal.decreases-loop-i
-decreases-loop-i l = l.n - l.i
+invariant-loop-i l = nth (joined (contract_lines_at (totals_from (entry_row (part_from 24 l.book)) (entry_row (part_from 24 l.locked))) (own_from l.own) (contract_row l.contracts)) l.i) l.number ≡ past l.left

@@ -1,10 +1,13 @@
 -- `numbered::line_at` meets its contract. Among the constraints' lines, or behind them among the contracts'. Assumes nothing.
-use Rattle.book.specs.Header.{header_of}
+use Rattle.book.specs.Book.{book_of}
+use Rattle.book.specs.Laid.{book_at}
 use Rattle.numbered.proofs.Records.{line_first, line_behind}
 use Rattle.numbered.proofs.line_at.Goals as goal
 
-pub returns-in-Line : goal.returns-in-Line
-returns-in-Line c = line_first c.args.book.now c.args.h c.args.locked.now (header_of c.args.locked.now) c.args.account c.args.own _ _ c.units_at-units.ensures c.contracts_at-paid.ensures _ c.in_constraints-first.ensures c.in-Line.is
+pub returns-in-Ok : goal.returns-in-Ok
+returns-in-Ok c = let first = rw (c.entries.ensures.bytes, c.constraints.ensures.bytes, c.units.ensures.bytes) at c.in_constraints-first.ensures in
+    line_first (book_at c.args.book.now) (book_of c.args.locked.now) c.args.account c.args.own _ first c.in-Ok.is
 
-pub returns-in-Past : goal.returns-in-Past
-returns-in-Past c = line_behind c.args.book.now c.args.h c.args.locked.now (header_of c.args.locked.now) c.args.account c.args.own _ _ c.units_at-units.ensures c.contracts_at-paid.ensures _ c.in_constraints-first.ensures c.in-Past.is _ c.in_contracts.ensures
+pub returns-in-Err : goal.returns-in-Err
+returns-in-Err c = let first = rw (c.entries.ensures.bytes, c.constraints.ensures.bytes, c.units.ensures.bytes) at c.in_constraints-first.ensures in
+    line_behind (book_at c.args.book.now) (book_of c.args.locked.now) c.args.account c.args.own _ first c.in-Err.is _ (rw c.contracts.ensures.bytes at c.in_contracts.ensures)

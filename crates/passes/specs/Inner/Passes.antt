@@ -1,11 +1,9 @@
 -- By what a book is first looked at: the checks of the short sections, and whether a verdict accepts. Only contracts of inner functions
 -- speak of these.
-use Rattle.std.specs.Prelude.{List, [], ◌∷◌, Bool, true, false}
+use Rattle.std.specs.Prelude.{List, [], ◌∷◌, Bool, true, false, Ok, Err}
 use Rattle.sections.specs.First.{first_bad}
 use Rattle.sections.specs.Order.{rises_by}
-use Rattle.sections.specs.Refusal.{at_record}
-use Rattle.sections.specs.declared.Verdict.{Verdict}
-use Rattle.sections.specs.declared.Verdict.TheVariants.{Accepted, Refused}
+use Rattle.sections.specs.Refusal.{at_record, Verdict}
 use Rattle.rules.specs.Rules.{entry_ok, constraint_ok, contract_ok, constraint_below, contract_below}
 use Rattle.book.specs.Header.{contracts_from}
 use Rattle.book.specs.Book.{Book}
@@ -22,5 +20,5 @@ short_checks B =
 
 -- nothing is refused
 unfoldable pub accepts : Verdict → Bool
-accepts Accepted = true
-accepts (Refused number place) = false
+accepts (Ok _) = true
+accepts (Err e) = false

@@ -1,5 +1,4 @@
--- `payments::contract_lines` meets its contract. The invariant: the lines of the regions so far are out. The measure is what is left. Assumes nothing.
-use Prim.Native.Nat.{◌≤◌, ◌-◌}
+-- `payments::contract_lines` meets its contract. The invariant: the lines of the regions so far are out. Assumes nothing.
 use Rattle.lines.specs.Lines.{region_lines}
 use Rattle.records.specs.Rows.{entry_row}
 use Rattle.totals.specs.Inner.Totals.{entry_of}
@@ -8,7 +7,4 @@ use Rattle.accounts.specs.Rows.{joined}
 use Rattle.payments.proofs.contract_lines.Given as goal
 
 abbrev pub invariant-loop-g : goal.invariant-loop-g
-invariant-loop-g l = (l.g ≤ 5) × Emitted l.initial.buf l.place (joined (region_lines (entry_row l.regions) (entry_of l.own) l.k) l.g) l.buf l.end
-
-abbrev pub decreases-loop-g : goal.decreases-loop-g
-decreases-loop-g l = 5 - l.g
+invariant-loop-g l = Emitted l.initial.buf l.place (joined (region_lines (entry_row l.regions) (entry_of l.own) l.k) l.g) l.buf l.end

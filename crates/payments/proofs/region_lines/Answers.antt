@@ -6,11 +6,11 @@ use Rattle.payments.proofs.region_lines.Goals as goal
 pub returns-then-factor-eq0 : goal.returns-then-factor-eq0
 returns-then-factor-eq0 c = region_none _ _ _ _ c.if-factor-eq0.true
 
-pub ace_line-by_ace-requires : goal.ace_line-by_ace-requires
-ace_line-by_ace-requires c = record { g_bound = (c.requires.in_bounds.1, rw c.halves_of-x.ensures (halves_small _ _ c.requires.contract_settles.rule.payment (c.requires.contract_settles.rule.factor _ c.requires.in_bounds.1))); shared = rw c.entry_row-e.ensures (c.requires.contract_settles.ace _ c.requires.in_bounds.1 c.if-factor-eq0.false) }
+pub ace_line-by_ace-requires-clause-small_halves : goal.ace_line-by_ace-requires-clause-small_halves
+ace_line-by_ace-requires-clause-small_halves c = rw c.halves_of-x.ensures (halves_small _ _ c.requires.contract_settles.rule.payment (c.requires.contract_settles.rule.factor _ c.requires.in_bounds.1))
 
-pub asoe_line-by_asoe-requires : goal.asoe_line-by_asoe-requires
-asoe_line-by_asoe-requires c = record { g_bound = (c.requires.in_bounds.1, rw c.halves_of-x.ensures (halves_small _ _ c.requires.contract_settles.rule.payment (c.requires.contract_settles.rule.factor _ c.requires.in_bounds.1))); shared = rw c.entry_row-e.ensures (c.requires.contract_settles.asoe _ c.requires.in_bounds.1 c.if-factor-eq0.false) }
+pub asoe_line-by_asoe-requires-clause-small_halves : goal.asoe_line-by_asoe-requires-clause-small_halves
+asoe_line-by_asoe-requires-clause-small_halves c = rw c.halves_of-x.ensures (halves_small _ _ c.requires.contract_settles.rule.payment (c.requires.contract_settles.rule.factor _ c.requires.in_bounds.1))
 
 pub emit_two-requires : goal.emit_two-requires
 emit_two-requires c = region_room _ _ _ _ c.if-factor-eq0.false c.requires.line_room

@@ -14,6 +14,7 @@ use Rattle.amounts.specs.Pools.{halves_of}
 use Rattle.recovery.specs.Recovers.{benefiting}
 use Rattle.recovery.specs.Inner.Shapes.{shared_sum, shared_cut, region_paid}
 use Rattle.recovery.specs.declared.contracts.Paid.{Paid}
+use Rattle.recovery.specs.declared.contracts.Recovered.{Recovered}
 
 -- a contract whose payment can be shared by these energies: each region that it benefits has both
 pub record PaidBy (entry : ℕ → Entry) (k : Contract) : Type 0 where
@@ -38,29 +39,34 @@ pub record PaidIs (E : Energies) (k : Contract) (x : Paid) : Type 0 where
   pub few : x.regions ≤ 5
   pub small : x.charge ≤ 102_400_000_000_000
 
--- ---- a contract's payment row by row, from lists that have a number for each region
+-- ---- a contract's payment row by row, from a list that has what each region recovers
 
--- the first m of a list's five numbers are those of f
-pub record Listed (f : ℕ → ℕ) (m : ℕ) (l : List ℕ) : Type 0 where
-  pub long : length l ≡ 5
-  pub each : (g : ℕ) → g < m → get_or l g 0 ≡ f g
+-- what a contract recovers in region g: the two halves of its payment there, and the energies that share them
+abbrev pub part_in : (ℕ → Entry) → Contract → ℕ → Recovered
+part_in entry k g =
+    let x = halves_of k.payment (factor_of k.factors g) in
+    record { factor = factor_of k.factors g; consumed = x.consumed; sent = x.sent; ace = (entry g).ace; asoe = (entry g).asoe }
 
--- c and s have the halves of the payment, a and o the totals, of the first m regions
-pub record ListsAre (entry : ℕ → Entry) (k : Contract) (m : ℕ) (c s a o : List ℕ) : Type 0 where
-  pub consumed : Listed (λ g. (halves_of k.payment (factor_of k.factors g)).consumed) m c
-  pub sent : Listed (λ g. (halves_of k.payment (factor_of k.factors g)).sent) m s
-  pub ace : Listed (λ g. (entry g).ace) m a
-  pub asoe : Listed (λ g. (entry g).asoe) m o
+-- what a list has of region g
+abbrev pub of_region : List Recovered → ℕ → Recovered
+of_region parts g = get_or parts g (record { factor = 0; consumed = 0; sent = 0; ace = 0; asoe = 0 })
+
+-- the first m of the five are those of the first m regions
+pub record PartsAre (entry : ℕ → Entry) (k : Contract) (m : ℕ) (parts : List Recovered) : Type 0 where
+  pub long : length parts ≡ 5
+  pub each : (g : ℕ) → g < m → of_region parts g ≡ part_in entry k g
 
 -- a row's rounded shares of two halves, each by its energy of a total
-abbrev pub two_shares : ℕ → ℕ → ℕ → ℕ → EnergyRow → ℕ
-two_shares consumed sent ace asoe r = round_n (consumed * r.ace) ace + round_n (sent * r.asoe) asoe
+abbrev pub two_shares : Recovered → EnergyRow → ℕ
+two_shares p r = round_n (p.consumed * r.ace) p.ace + round_n (p.sent * r.asoe) p.asoe
 
--- what the account of a row pays for its region, where the contract benefits it
-unfoldable pub row_pays : List ℕ → List ℕ → List ℕ → List ℕ → List ℕ → EnergyRow → ℕ
-row_pays factors c s a o r =
-    let g = r.region in
-    cond (eqb (factor_of factors g) 0) 0 (two_shares (get_or c g 0) (get_or s g 0) (get_or a g 0) (get_or o g 0) r)
+-- what the account of a row pays of p, where the contract benefits its region
+abbrev pub pays_of : Recovered → EnergyRow → ℕ
+pays_of p r = cond (eqb p.factor 0) 0 (two_shares p r)
+
+-- what the account of a row pays for its region
+unfoldable pub row_pays : List Recovered → EnergyRow → ℕ
+row_pays parts r = pays_of (of_region parts r.region) r
 
 -- an energy of a whole can be given its share of a half
 pub record Fair (half own whole : ℕ) : Type 0 where
@@ -70,12 +76,12 @@ pub record Fair (half own whole : ℕ) : Type 0 where
   pub below : whole ≤ total_limit
 
 -- so can both energies of a row, where the contract benefits its region
-pub record Payable (factors c s a o : List ℕ) (r : EnergyRow) : Type 0 where
+pub record Payable (parts : List Recovered) (r : EnergyRow) : Type 0 where
   pub region : r.region < 5
-  pub ace : (factor_of factors r.region ≡ 0 → ⊥) → Fair (get_or c r.region 0) r.ace (get_or a r.region 0)
-  pub asoe : (factor_of factors r.region ≡ 0 → ⊥) → Fair (get_or s r.region 0) r.asoe (get_or o r.region 0)
+  pub ace : let p = of_region parts r.region in (p.factor ≡ 0 → ⊥) → Fair p.consumed r.ace p.ace
+  pub asoe : let p = of_region parts r.region in (p.factor ≡ 0 → ⊥) → Fair p.sent r.asoe p.asoe
 
 -- and those of n rows
-pub record AllPayable (factors c s a o : List ℕ) (energy : ℕ → EnergyRow) (n : ℕ) : Type 0 where
+pub record AllPayable (parts : List Recovered) (energy : ℕ → EnergyRow) (n : ℕ) : Type 0 where
   pub few : n ≤ 1024
-  pub row : (i : ℕ) → i < n → Payable factors c s a o (energy i)
+  pub row : (i : ℕ) → i < n → Payable parts (energy i)

@@ -2,10 +2,10 @@
 use Rattle.sections.specs.Refusal.{at_record}
 use Rattle.sections.proofs.at_record.Goals as goal
 
-pub returns-in-Good : goal.returns-in-Good
+pub returns-in-None : goal.returns-in-None
 unfolding at_record
-returns-in-Good c = rw c.in-Good.is
+returns-in-None c = rw c.in-None.is
 
-pub returns-in-Bad : goal.returns-in-Bad
+pub returns-in-Some : goal.returns-in-Some
 unfolding at_record
-returns-in-Bad c = rw c.in-Bad.is
+returns-in-Some c = rw c.in-Some.is

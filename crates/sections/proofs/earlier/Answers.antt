@@ -1,11 +1,14 @@
--- `sections::earlier` meets its contract. The case of the first verdict decides. Assumes nothing.
-use Rattle.sections.specs.Refusal.{earlier}
+-- `sections::earlier` meets its contract: std's `and` is the first refusal of two. Assumes nothing.
+use mathlib.Core.Path.{◌≡◌, refl, ◌∙◌}
+use Rattle.std.specs.Result.{result_and}
+use Rattle.std.specs.Prelude.{Ok, Err}
+use Rattle.sections.specs.Refusal.{Verdict, earlier}
 use Rattle.sections.proofs.earlier.Goals as goal
 
-pub returns-in-Accepted : goal.returns-in-Accepted
+and_is_earlier : (a b : Verdict) → result_and a b ≡ earlier a b
 unfolding earlier
-returns-in-Accepted c = rw c.in-Accepted.is
+and_is_earlier (Ok _) b = refl
+and_is_earlier (Err e) b = refl
 
-pub returns-in-Refused : goal.returns-in-Refused
-unfolding earlier
-returns-in-Refused c = rw c.in-Refused.is
+pub returns : goal.returns
+returns c = c.and.ensures ∙ and_is_earlier c.args.a c.args.b

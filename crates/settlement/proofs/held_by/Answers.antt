@@ -1,9 +1,8 @@
--- `settlement::held_by` meets its contract: a book's energies are a part of its bytes. Assumes nothing.
-use Rattle.accounts.proofs.Parts.{part_laid, part_sound, part_held}
+-- `settlement::held_by` meets its contract: what an account holds of a book's energies, it holds of the book. Assumes nothing.
+use mathlib.Core.Path.{subst}
+use Rattle.totals.specs.Inner.Energies.{Energies}
+use Rattle.accounts.specs.Inner.Held.{HeldIs}
 use Rattle.settlement.proofs.held_by.Goals as goal
 
-pub own_energy-requires : goal.own_energy-requires
-own_energy-requires c = record { part_laid = part_laid c.args.book.now c.args.h _ c.part_of.ensures c.requires.laid; energies_sound = part_sound c.args.book.now c.args.h _ c.part_of.ensures c.requires.sound }
-
 pub returns : goal.returns
-returns c = part_held c.args.book.now c.args.h _ c.part_of.ensures _ c.own_energy.ensures
+returns c = subst (λ (E : Energies). HeldIs E.row E.rows c.args.account c.own_energy.new.own c.own_energy.result) c.of.ensures c.own_energy.ensures

@@ -1,25 +1,16 @@
 -- `settlement::statement` meets its contract. A refusal of the book is the answer; else the account's statement is written or refused. Assumes nothing.
-use mathlib.Core.Path.{sym, ◌∙◌}
-use native.Mathlib.Omega.{arith}
-use Rattle.book.proofs.Second.{given, laid_in, locked_laid, promised_in, stands_in}
+use Rattle.sections.proofs.Verdicts.{handed_on}
+use Rattle.verdict.proofs.Both.{both_promised, both_stand, book_headed, second_headed}
 use Rattle.statement.proofs.Lent.{lent_refused}
 use Rattle.settlement.proofs.Ends.{outcome_refused, end_settled}
 use Rattle.settlement.proofs.statement.Goals as goal
 
-pub returns-in-Refused : goal.returns-in-Refused
-returns-in-Refused c = lent_refused _ _ _ _ (outcome_refused c.args.book.now c.args.locked.now c.args.account (sym c.check.ensures ∙ c.in-Refused.is))
-
-pub header_of-h-requires : goal.header_of-h-requires
-header_of-h-requires c = let q = c.check.ensures in let e = c.in_default.is in omega (arith, (given c.args.book.now c.args.locked.now q e).long)
-
-pub settles_tests-second-requires : goal.settles_tests-second-requires
-settles_tests-second-requires c = let q = c.check.ensures in let e = c.in_default.is in laid_in c.args.book.now c.args.locked.now q e c.header_of-h.ensures
+pub returns-in_err-both : goal.returns-in_err-both
+returns-in_err-both c = rw (handed_on _ c.from_residual.ensures.1) (lent_refused _ _ _ _ (outcome_refused c.args.book.now c.args.locked.now c.args.account c.in_err-both.ensures))
 
 pub settle-requires : goal.settle-requires
-settle-requires c = let q = c.check.ensures in let e = c.in_default.is in
-    let i = c.header_of-h.ensures in
-    let t = c.settles_tests-second.ensures in
-    record { laid = ((laid_in c.args.book.now c.args.locked.now q e i, i), locked_laid c.args.book.now c.args.locked.now q e i t); promise = (promised_in c.args.book.now c.args.locked.now q e i t, stands_in c.args.book.now c.args.locked.now q e i t) }
+settle-requires c = let both = c.in_ok-both.ensures in
+    record { headed = (book_headed both, second_headed both); promise = (both_promised both, both_stand both) }
 
 pub returns : goal.returns
-returns c = let q = c.check.ensures in let e = c.in_default.is in end_settled c.args.book.now c.args.locked.now c.args.account q e c.header_of-h.ensures c.settles_tests-second.ensures c.settle.ensures
+returns c = end_settled c.args.book.now c.args.locked.now c.args.account c.in_ok-both.ensures c.settle.ensures

@@ -6,7 +6,7 @@ use mir.Facts.{to_z-of_z}
 use Rattle.ground.specs.Le.{le16, le32, le64, int64}
 use Rattle.ground.proofs.Put.{put_more}
 use Rattle.statement.specs.Statement.{line_bytes}
-use borrow.Author.Rules.{sfits_of}
+use borrow.Author.Rules.{rules}
 use Rattle.statement.proofs.put_line.Goals as goal
 
 pub returns : goal.returns
@@ -15,6 +15,6 @@ returns c = record {
   bytes =
       put_more _ _ _ _
       (put_more _ _ _ _ c.put_names.ensures c.put_unit.ensures)
-      (rw (to_z-of_z (sfits_of {w = w64} c.struct_told-1.given.1.1.1.1.0.1)) at c.put_i64.ensures);
+      (rw (to_z-of_z {w = w64} {z = c.args.line.amount} (search rules)) at c.put_i64.ensures);
   next = refl;
 }

@@ -1,8 +1,9 @@
--- `statement::put_mark` meets its contract: three puts end to end. Assumes nothing.
-use Rattle.ground.proofs.Put.{put_more}
+-- `statement::put_mark` meets its contract. The letters, copied to their place. Assumes nothing.
+use mathlib.Core.Path.{refl}
+use Rattle.ground.proofs.Put.{put_copied}
 use Rattle.statement.specs.Statement.{rcs}
 use Rattle.statement.proofs.put_mark.Goals as goal
 
 pub returns : goal.returns
 unfolding rcs
-returns c = put_more _ _ _ _ (put_more _ _ _ _ c.put_u8.ensures c.put_u8-2.ensures) c.put_u8-3.ensures
+returns c = put_copied _ 0 3 c.copy_from_slice.ensures.after refl c.requires

@@ -2,5 +2,5 @@
 use Rattle.text.proofs.Ends.{said_refused}
 use Rattle.text.proofs.put_outcome.Goals as goal
 
-pub returns-in-Refused : goal.returns-in-Refused
-returns-in-Refused c = said_refused _ c.length.ensures c.in-Refused.is c.put_refusal.ensures
+pub returns-in-Err : goal.returns-in-Err
+returns-in-Err c = said_refused _ c.length.ensures c.in-Err.is c.put_refusal.ensures

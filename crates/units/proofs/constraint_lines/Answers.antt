@@ -12,18 +12,20 @@ pub returns-then-r-eq-CONTINGENCY : goal.returns-then-r-eq-CONTINGENCY
 returns-then-r-eq-CONTINGENCY c = let z = c.if-r-eq-CONTINGENCY.true in
     plain_done _ _ _ _ _ _ _ z (no_rows _ _ _ _ c.requires.stands (c.requires.settles.bare z)) c.contingency_line-line.ensures (emitted_one _ c.put_line-end.ensures)
 
-pub unit_run-walked-requires : goal.unit_run-walked-requires
-unit_run-walked-requires c = let p = c.pools_of-p.ensures in
-    record { m_in_bounds = c.requires.m_in_bounds; walked = c.requires.walked; stands = c.requires.stands; small_pools = rw p (pools_small _ c.requires.settles.rule); line_room = units_room _ _ _ _ _ _ c.if-r-eq-CONTINGENCY.false p c.requires.line_room }
+pub unit_run-walked-requires-clause-small_pools : goal.unit_run-walked-requires-clause-small_pools
+unit_run-walked-requires-clause-small_pools c = rw c.pools_of-p.ensures (pools_small _ c.requires.settles.rule)
 
-pub residual_of-x-requires : goal.residual_of-x-requires
-residual_of-x-requires c = let h = c.requires.settles in record { constraint_rule = h.rule; small_pools = rw c.pools_of-p.ensures (pools_small _ h.rule) }
+pub unit_run-walked-requires-clause-line_room : goal.unit_run-walked-requires-clause-line_room
+unit_run-walked-requires-clause-line_room c = units_room _ _ _ _ _ _ c.if-r-eq-CONTINGENCY.false c.pools_of-p.ensures c.requires.line_room
+
+pub residual_of-x-requires-clause-small_pools : goal.residual_of-x-requires-clause-small_pools
+residual_of-x-requires-clause-small_pools c = rw c.pools_of-p.ensures (pools_small _ c.requires.settles.rule)
 
 pub emit_rest-end-requires : goal.emit_rest-end-requires
 emit_rest-end-requires c = let h = c.requires.settles in
     let p = c.pools_of-p.ensures in
     let x = c.residual_of-x.ensures in
-    record { line_room = rest_room _ _ _ _ _ _ c.if-r-eq-CONTINGENCY.false p c.unit_run-walked.ensures x c.requires.line_room; small_residual = rw (x, p) (residual_small _ _ h.rule (pools_small _ h.rule)); shared = h.shared }
+    record { line_room = rest_room _ _ _ _ _ _ c.if-r-eq-CONTINGENCY.false p c.unit_run-walked.ensures x c.requires.line_room; small_residual = rw (x, p) (residual_small _ _ h.rule (pools_small _ h.rule)) }
 
 pub returns : goal.returns
 returns c = rest_done _ _ _ _ _ _ c.if-r-eq-CONTINGENCY.false c.pools_of-p.ensures c.unit_run-walked.ensures c.residual_of-x.ensures c.emit_rest-end.ensures

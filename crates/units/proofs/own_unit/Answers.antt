@@ -5,8 +5,8 @@ use Rattle.units.proofs.own_unit.Goals as goal
 pub returns-then-q-account : goal.returns-then-q-account
 returns-then-q-account c = own_skip _ _ _ _ c.if-q-account.true
 
-pub emit_unit-requires : goal.emit_unit-requires
-emit_unit-requires c = record { line_room = own_room _ _ _ _ c.if-q-account.false c.requires.line_room; small_pools = c.requires.small_pools; unit_rule = c.requires.unit_rule }
+pub emit_unit-requires-clause-line_room : goal.emit_unit-requires-clause-line_room
+emit_unit-requires-clause-line_room c = own_room _ _ _ _ c.if-q-account.false c.requires.line_room
 
 pub returns : goal.returns
 returns c = own_out _ _ _ _ c.if-q-account.false c.emit_unit.ensures

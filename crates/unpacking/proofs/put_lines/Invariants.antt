@@ -1,12 +1,9 @@
--- `unpacking::put_lines` meets its contract. The invariant: the first i lines stand at the front. The measure is what is left. Assumes nothing.
-use Prim.Native.Nat.{◌*◌, ◌-◌, ◌≤◌}
+-- `unpacking::put_lines` meets its contract. The invariant: the first i lines stand at the front. Assumes nothing.
+use Prim.Native.Nat.{◌*◌}
 use Rattle.ground.specs.Inner.Put.{Wrote}
 use Rattle.parsing.specs.Parsing.{lines_in}
 use Rattle.unpacking.specs.Unpacking.{all_fields}
 use Rattle.unpacking.proofs.put_lines.Given as goal
 
 abbrev pub invariant-loop-i : goal.invariant-loop-i
-invariant-loop-i l = (l.i ≤ l.n) × Wrote l.initial.buffer 0 (all_fields (lines_in l.s l.i)) l.buffer (l.i * 40)
-
-abbrev pub decreases-loop-i : goal.decreases-loop-i
-decreases-loop-i l = l.n - l.i
+invariant-loop-i l = Wrote l.initial.buffer 0 (all_fields (lines_in l.s l.i)) l.buffer (l.i * 40)

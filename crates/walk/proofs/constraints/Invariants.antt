@@ -1,5 +1,5 @@
--- `walk::constraints` meets its contract. The invariant: the lines of the constraints so far are out, and the cursor stands at the first row of the next one, since each row names a constraint and the ids rise. The measure is what is left. Assumes nothing.
-use Prim.Native.Nat.{◌≤◌, ◌<◌, ◌-◌}
+-- `walk::constraints` meets its contract. The invariant: the lines of the constraints so far are out, and the cursor stands at the first row of the next one, since each row names a constraint and the ids rise. Assumes nothing.
+use Prim.Native.Nat.{◌<◌}
 use Rattle.sections.specs.Inner.Walk.{Stands}
 use Rattle.records.specs.Rows.{entry_row, constraint_row, unit_row}
 use Rattle.factors.specs.Naming.{id_of, key_of}
@@ -9,7 +9,4 @@ use Rattle.emission.specs.Inner.Emitted.{Emitted}
 use Rattle.walk.proofs.constraints.Given as goal
 
 abbrev pub invariant-loop-j : goal.invariant-loop-j
-invariant-loop-j l = (l.j ≤ l.n) × (Emitted l.initial.buf l.place (joined (con_lines_at (entry_row l.regions) (constraint_row l.cons) (unit_row l.units) l.m l.account (record { ace = l.ace; asoe = l.asoe; residual = l.residual })) l.j) l.buf l.here.place × (l.j < l.n → Stands (key_of (unit_row l.units)) l.m (id_of (constraint_row l.cons) l.j) l.here.next))
-
-abbrev pub decreases-loop-j : goal.decreases-loop-j
-decreases-loop-j l = l.n - l.j
+invariant-loop-j l = Emitted l.initial.buf l.place (joined (con_lines_at (entry_row l.regions) (constraint_row l.cons) (unit_row l.units) l.m l.account l.own) l.j) l.buf l.here.place × (l.j < l.n → Stands (key_of (unit_row l.units)) l.m (id_of (constraint_row l.cons) l.j) l.here.next)

@@ -7,4 +7,4 @@ use Rattle.walk.proofs.contract.Goals as goal
 pub contract_lines-requires : goal.contract_lines-requires
 contract_lines-requires c = let handed = c.energies_of-regions.ensures in
     let source = c.of-source.ensures in
-    record { in_bounds = picked_room handed c.requires.in_bounds.0 c.requires.in_bounds.1; contract_settles = settles_in handed c.args.own c.args.k source c.by.ensures c.requires.settled_in; line_room = room_in handed c.args.own c.args.k source c.by.ensures c.requires.line_room }
+    record { in_bounds = picked_room handed c.requires.in_bounds.0 c.requires.in_bounds.1; contract_settles = settles_in handed c.args.own.now c.args.k source c.by.ensures c.requires.settled_in; line_room = room_in handed c.args.own.now c.args.k source c.by.ensures c.requires.line_room }

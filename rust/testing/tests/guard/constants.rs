@@ -89,7 +89,7 @@ const PLACES: &[(&str, &str)] = &[
     (DISPATCH, "(i + 1)) money_limit"),
     (
         ANSWERS,
-        "verdict_answer Accepted = record { refusal = {NOT_REFUSED};",
+        "verdict_answer (Ok _) = record { refusal = {NOT_REFUSED};",
     ),
     (TABLE, "unless (leb 84 (length b)) {REFUSED_SHORT}"),
     (TABLE, "unless (book_marked b) {REFUSED_MARK}"),
@@ -123,17 +123,17 @@ const PLACES: &[(&str, &str)] = &[
         SETTLE,
         "cond (any_over (lines_of public rows locked)) (refuses {REFUSED_LIMIT} 0)",
     ),
-    (LENT, "(Length (length xs)) (Refused {REFUSED_BUFFER} 0)"),
-    (CALLS, "(heading.Refused {REFUSED_NO_STATEMENT} 0)"),
-    (CALLS, "(line.Refused {REFUSED_PAST_END} 0) (line.Line"),
-    (BALANCE, "balanced.Refused {REFUSED_PAST_END} 0"),
+    (LENT, "(Ok (length xs)) (refused {REFUSED_BUFFER} 0)"),
     (
-        CUTOFFS,
-        "stage_at [] index = cutoff.Refused {REFUSED_PAST_END} 0",
+        CALLS,
+        "(Ok (heading_at s)) (refused {REFUSED_NO_STATEMENT} 0)",
     ),
+    (CALLS, "(refused {REFUSED_PAST_END} 0) (Ok (line_at"),
+    (BALANCE, "answer_to B L past = refused {REFUSED_PAST_END} 0"),
+    (CUTOFFS, "stage_at [] index = refused {REFUSED_PAST_END} 0"),
     (
         CUTOFFS,
-        "cut_for B L past index = cutoff.Refused {REFUSED_PAST_END} 0",
+        "cut_for B L past index = refused {REFUSED_PAST_END} 0",
     ),
     (
         DISPATCH,
@@ -141,16 +141,13 @@ const PLACES: &[(&str, &str)] = &[
     ),
     (
         NMAS,
-        "rows_read (part rs t) = rows.Refused {REFUSED_NMAS_LINE} (length rs)",
+        "rows_read (part rs t) = refused {REFUSED_NMAS_LINE} (length rs)",
     ),
     (
         NMAS,
-        "row_read (part rs t) index = row.Refused {REFUSED_NMAS_LINE} (length rs)",
+        "row_read (part rs t) index = refused {REFUSED_NMAS_LINE} (length rs)",
     ),
-    (
-        NMAS,
-        "numbered_row (past n) = row.Refused {REFUSED_PAST_END} 0",
-    ),
+    (NMAS, "numbered_row (past n) = refused {REFUSED_PAST_END} 0"),
     (
         NMAS_FILE,
         "cond (leb 3 payment_type) (refuses {REFUSED_PAST_END} 0)",

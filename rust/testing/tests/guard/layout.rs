@@ -19,11 +19,11 @@ struct Record {
     file: &'static str,
     list: &'static str,
     front: &'static str,
-    /// What the definitions call the record where they give its size.
+    /// What the code calls the record where it gives its size.
     size_of: Option<&'static str>,
 }
 
-const CHECKS: &str = "crates/section_check/specs/Inner/Checks.antt";
+pub const SIZES: &str = "crates/rules/src/fields.rt";
 const ROWS: &str = "crates/records/specs/Rows.antt";
 const READING: &str = "crates/parsing/specs/Parsing.antt";
 const BOOK: &str = "crates/book/specs/Header.antt";
@@ -45,11 +45,11 @@ const RULES: [&str; 8] = [
 
 const RECORDS: [Record; 9] = [
     Record::whole("Book header", BOOK, "b"),
-    Record::repeated("Region entry", "i * 12", "EntryFields"),
-    Record::repeated("Constraint", "i * 40", "ConstraintFields"),
-    Record::repeated("Unit row", "i * 20", "UnitFields"),
-    Record::repeated("Energy row", "i * 24", "EnergyFields"),
-    Record::repeated("Contract", "i * 36", "ContractFields"),
+    Record::repeated("Region entry", "i * 12", "Entry"),
+    Record::repeated("Constraint", "i * 40", "Constraint"),
+    Record::repeated("Unit row", "i * 20", "UnitRow"),
+    Record::repeated("Energy row", "i * 24", "EnergyRow"),
+    Record::repeated("Contract", "i * 36", "Contract"),
     Record::whole("Statement header", READING, "s"),
     Record {
         title: "Line",
@@ -170,6 +170,13 @@ fn outside_the_rules(repository: &Repository, row: &Row) -> Vec<String> {
         .collect()
 }
 
+/// How a kind of record begins that has so many bytes: the code's number, and the one
+/// that contracts speak of.
+pub fn size_given(name: &str, bytes: usize) -> String {
+    let front = format!("impl Ruled for {name} {{\n    const SIZE: usize = {bytes};\n");
+    format!("{front}\n    ghost SIZE = {{ {bytes} }};\n")
+}
+
 fn why_unlike(repository: &Repository, record: &Record, rows: &[Row]) -> Vec<String> {
     let front = format!("{}, ", record.title);
     let fields = rows.iter().filter(|row| {
@@ -202,9 +209,8 @@ fn why_unlike(repository: &Repository, record: &Record, rows: &[Row]) -> Vec<Str
         ));
     }
     if let Some(name) = record.size_of {
-        let given = format!("{name} = {end}");
-        if !has_whole(repository.text(CHECKS), &given) {
-            why.push(format!("{CHECKS} does not give it {end} bytes"));
+        if !repository.text(SIZES).contains(&size_given(name, end)) {
+            why.push(format!("{SIZES} does not give it {end} bytes"));
         }
     }
     why

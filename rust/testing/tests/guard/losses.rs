@@ -951,19 +951,23 @@ fn a_field_of_a_file_that_is_another_is_noticed() {
 fn a_record_of_another_size_is_noticed() {
     let repository = Repository::read();
     let watch = Watch::over(&repository, layout::unlike_the_definitions);
-    let checks = "crates/section_check/specs/Inner/Checks.antt";
     for (name, size, title) in [
         ("Entry", 12, "Region entry"),
         ("Constraint", 40, "Constraint"),
-        ("Unit", 20, "Unit row"),
-        ("Energy", 24, "Energy row"),
+        ("UnitRow", 20, "Unit row"),
+        ("EnergyRow", 24, "Energy row"),
         ("Contract", 36, "Contract"),
     ] {
-        let (old, new) = (
-            format!("{name}Fields = {size}\n"),
-            format!("{name}Fields = {size}0\n"),
-        );
-        watch.notices(title, |changed| replace(changed, checks, &old, &new));
+        let given = layout::size_given(name, size);
+        for (old, new) in [
+            (format!(" = {size};"), format!(" = {size}0;")),
+            (format!("{{ {size} }}"), format!("{{ {size}0 }}")),
+        ] {
+            let other = given.replacen(&old, &new, 1);
+            watch.notices(title, |changed| {
+                replace(changed, layout::SIZES, &given, &other)
+            });
+        }
         let heading = format!("### {title}, {size} bytes\n");
         let other = format!("### {title}, {size}0 bytes\n");
         watch.notices(title, |changed| {

@@ -44,7 +44,8 @@ pub fn missing_of(function: &Function) -> Vec<String> {
 fn lent_to_write(signature: &str) -> Vec<&str> {
     let parameters = signature.split("->").next().unwrap_or(signature);
     let parameters = parameters.trim_matches(['(', ')', ' ']).split(", ");
-    let lent = parameters.filter_map(|parameter| parameter.split_once(": "));
+    // `&mut self` has no name in front.
+    let lent = parameters.map(|of| of.split_once(": ").unwrap_or(("self", of)));
     let lent = lent.filter(|(_, kind)| kind.starts_with('&') && kind.contains("mut "));
     lent.map(|(name, _)| name).collect()
 }
@@ -184,7 +185,7 @@ fn entries(page: &str) -> Vec<String> {
 }
 
 fn path_in(entry: &str) -> &str {
-    entry.split('(').next().unwrap_or(entry)
+    entry.split(['(', '<']).next().unwrap_or(entry)
 }
 
 /// The page's headings have to be the crates, from the last that `crates.txt` lists to

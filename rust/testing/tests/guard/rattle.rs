@@ -12,6 +12,8 @@ pub struct Function {
     pub is_public: bool,
     /// Whether C calls it.
     pub is_extern: bool,
+    /// `<R: Bound>`, where it has parameters that are types.
+    pub kinds: String,
     /// Parameters and result, white space made single.
     pub signature: String,
     /// Each `requires { .. }` and `ensures { .. }`, with its name where it has one, white
@@ -134,7 +136,8 @@ impl Reader<'_> {
     fn function(&self, at: usize) -> Option<Function> {
         let name = self.tokens.get(at + 1).filter(|token| token.is_word())?;
         let (start, is_public) = self.start(at);
-        let open = (at + 2..self.tokens.len()).find(|&at| self.is(at, "("))?;
+        let behind = self.behind_kinds(at + 2);
+        let open = (behind..self.tokens.len()).find(|&at| self.is(at, "("))?;
         let mut next = closing(self.tokens, open) + 1;
         let mut clauses = Vec::new();
         let mut signature_end = None;
@@ -156,6 +159,7 @@ impl Reader<'_> {
             file: self.file.to_owned(),
             is_public,
             is_extern: (start..at).any(|at| self.is(at, "extern")),
+            kinds: of_types(self.between(at + 2, behind)),
             signature: on_one_line(&self.between(open, signature_end.unwrap_or(next))),
             clauses,
             lines: (self.line(start), self.line(end)),
@@ -163,6 +167,21 @@ impl Reader<'_> {
             calls: calls(&self.tokens[next..end]),
             words: words(&self.tokens[next..end]),
         })
+    }
+
+    /// Where what stands between `<` and `>` ends, if anything does.
+    fn behind_kinds(&self, start: usize) -> usize {
+        let (mut at, mut depth) = (start, 0);
+        while at < self.tokens.len() {
+            depth += i32::from(self.is(at, "<"));
+            // `->` closes nothing.
+            depth -= i32::from(self.is(at, ">") && !self.is(at - 1, "-"));
+            if depth == 0 {
+                break;
+            }
+            at += 1;
+        }
+        at + usize::from(at > start)
     }
 
     /// Where the function begins, and whether it is public. `pub(crate)` is not.
@@ -200,6 +219,14 @@ impl Reader<'_> {
             .get(token)
             .map_or(self.text.len(), |token| token.at);
         line_at(self.text, at)
+    }
+}
+
+/// Parameters that are types, and none that are lifetimes alone.
+fn of_types(kinds: String) -> String {
+    match kinds.contains(char::is_uppercase) {
+        true => kinds,
+        false => String::new(),
     }
 }
 
@@ -328,9 +355,22 @@ fn last_type<'a>(tokens: &[Token<'a>]) -> Option<&'a str> {
 }
 
 fn calls(body: &[Token<'_>]) -> Vec<Call> {
-    let is_call = |&at: &usize| body[at].text == "(" && body[at - 1].is_word();
-    let opened = (1..body.len()).filter(is_call);
-    opened.map(|open| call(body, open - 1)).collect()
+    let opened = (1..body.len()).filter(|&at| body[at].text == "(");
+    let names = opened.filter_map(|open| called_name(body, open));
+    names.map(|name| call(body, name)).collect()
+}
+
+/// Where the name of a call stands, before its bracket and the types that it may be
+/// given, as in `name::<Type>(`.
+fn called_name(body: &[Token<'_>], open: usize) -> Option<usize> {
+    let mut name = open - 1;
+    if body[name].text == ">" {
+        let types = body[..name].iter().rposition(|token| token.text == "<")?;
+        name = types
+            .checked_sub(3)
+            .filter(|_| body[types - 1].text == ":")?;
+    }
+    body[name].is_word().then_some(name)
 }
 
 fn call(body: &[Token<'_>], name: usize) -> Call {
@@ -368,6 +408,11 @@ fn meant<'a>(all: &'a [Function], from: &Function, call: &Call) -> Vec<&'a Funct
     let of_crate = |function: &&&Function| function.crate_name() == from.crate_name();
     let chosen: Vec<&Function> = match call.qualifier.as_deref() {
         Some("Self") => named.iter().filter(of_file).copied().collect(),
+        // A type parameter: any type's.
+        Some(parameter) if parameter.len() == 1 => {
+            let methods = named.iter().filter(|function| function.owner.is_some());
+            methods.copied().collect()
+        }
         Some(qualifier) => {
             let name = format!("{qualifier}::{}", call.name);
             let qualified = named.iter().filter(|function| function.is_named(&name));
@@ -486,6 +531,24 @@ pub extern \"C\" fn call(
             "(book: &[u8], number: u64) -> Answer"
         );
         assert_eq!(functions[2].clauses, ["ensures { result ≡ answer }"]);
+    }
+
+    #[test]
+    fn types_that_a_function_is_for_are_read() {
+        let code = "
+pub fn first<F: Fn(usize) -> bool>(n: usize, test: F) -> bool { test(n) }
+pub fn lent<'a>(text: &'a [u8]) {}
+";
+        let functions = functions("crates/edge/src/lib.rt", code);
+        let read: Vec<_> = functions
+            .iter()
+            .map(|one| (one.kinds.as_str(), one.signature.as_str()))
+            .collect();
+        let expected = [
+            ("<F: Fn(usize) -> bool>", "(n: usize, test: F) -> bool"),
+            ("", "(text: &'a [u8])"),
+        ];
+        assert_eq!(read, expected);
     }
 
     #[test]

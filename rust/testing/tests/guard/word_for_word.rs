@@ -8,7 +8,8 @@ pub const PAGE: &str = "docs/PROMISES.md";
 
 /// A function's entry: its name and signature, and each clause on a line.
 pub fn entry(function: &Function) -> String {
-    let mut entry = format!("{}{}", function.path, function.signature);
+    let front = [&function.path, &function.kinds, &function.signature];
+    let mut entry = front.map(String::as_str).concat();
     for clause in &function.clauses {
         entry.push_str("\n    ");
         entry.push_str(clause);

@@ -1,5 +1,4 @@
--- `balance::places::place_of` meets its contract. The invariant, `Looking`: the pools of the first j constraints are passed. The measure is what is left. Assumes nothing.
-use Prim.Native.Nat.{◌-◌}
+-- `balance::places::place_of` meets its contract. The invariant, `Looking`: the pools of the first j constraints are passed. Assumes nothing.
 use native.Mathlib.Omega.{arith}
 use Rattle.balance.proofs.Finding.{look_start, look_more, found_kind, found_contract, found_past}
 use Rattle.balance.proofs.places.place_of.Goals as goal

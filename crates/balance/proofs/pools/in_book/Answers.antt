@@ -3,4 +3,4 @@ use Rattle.balance.proofs.Resting.{counted_is}
 use Rattle.balance.proofs.pools.in_book.Goals as goal
 
 pub returns : goal.returns
-returns c = counted_is c.args.book.now c.args.h c.requires.sound _ _ c.energies_at-energies.ensures c.units_at-units.ensures c.all_accounts.ensures
+returns c = counted_is c.args.book.now.bytes.now c.args.book.now.header c.requires c.energies.ensures.bytes c.units.ensures.bytes c.all_accounts.ensures

@@ -3,26 +3,33 @@ use Prim.Native.Nat.{ℕ}
 use mathlib.Core.Path.{◌≡◌, sym, ap, ◌∙◌}
 use mathlib.Core.List.{[], ◌∷◌}
 use native.Mathlib.Omega.{arith}
-use Rattle.totals.specs.Inner.Energies.{energies_in}
+use Rattle.accounts.specs.Inner.Lent.{lent}
 use Rattle.cutoffs.specs.Cutoffs.{whole_stage, half_stage, stage_at}
 use Rattle.cutoffs.specs.Inner.Shapes.{ace_shape, asoe_shape}
-use Rattle.cutoffs.specs.declared.Cut.{Cut}
-use Rattle.cutoffs.specs.declared.Cutoff.TheVariants as cutoff
+use Rattle.std.specs.Prelude.{Ok}
+use Rattle.recovery.proofs.Sharing.{consumed_shareable, sent_shareable}
+use Rattle.cutoffs.proofs.Made.{consumed_fits, sent_fits, ace_is, asoe_is}
 use Rattle.cutoffs.proofs.Numbering.{region_at}
 use Rattle.cutoffs.proofs.contracts.in_region.Goals as goal
 
-pub returns-then-left-eq0 : goal.returns-then-left-eq0
-unfolding stage_at
-returns-then-left-eq0 c = ap (λ (x : Cut). cutoff.Cut x) c.whole.ensures ∙ ap (λ (i : ℕ). stage_at (whole_stage c.args.k c.args.g ∷ half_stage c.args.k c.args.g ∷ ace_shape (energies_in c.args.bytes.now c.args.e) c.args.k c.args.g ∷ asoe_shape (energies_in c.args.bytes.now c.args.e) c.args.k c.args.g ∷ []) i) (sym c.if-left-eq0.true) ∙ region_at (energies_in c.args.bytes.now c.args.e) c.args.k c.args.g c.args.left c.requires.paid_by.1.1
+pub lines-requires : goal.lines-requires
+lines-requires c = (consumed_fits _ _ (lent c.args.e) c.half_part.ensures (consumed_shareable c.args.e.sound c.requires.paid_by.0 _ c.requires.paid_by.1.0 c.requires.paid_by.1.1), c.requires.paid_by.1.0)
 
-pub returns-then-left-eq1 : goal.returns-then-left-eq1
-unfolding stage_at
-returns-then-left-eq1 c = ap (λ (x : Cut). cutoff.Cut x) c.half.ensures ∙ ap (λ (i : ℕ). stage_at (whole_stage c.args.k c.args.g ∷ half_stage c.args.k c.args.g ∷ ace_shape (energies_in c.args.bytes.now c.args.e) c.args.k c.args.g ∷ asoe_shape (energies_in c.args.bytes.now c.args.e) c.args.k c.args.g ∷ []) i) (sym c.if-left-eq1.true) ∙ region_at (energies_in c.args.bytes.now c.args.e) c.args.k c.args.g c.args.left c.requires.paid_by.1.1
+pub lines-requires-in_default : goal.lines-requires-in_default
+lines-requires-in_default c = (sent_fits _ _ (lent c.args.e) c.half_part-in_default.ensures (sent_shareable c.args.e.sound c.requires.paid_by.0 _ c.requires.paid_by.1.0 c.requires.paid_by.1.1), c.requires.paid_by.1.0)
 
-pub returns-then-left-eq2 : goal.returns-then-left-eq2
+pub returns-in-0 : goal.returns-in-0
 unfolding stage_at
-returns-then-left-eq2 c = ap (λ (x : Cut). cutoff.Cut x) c.by_ace.ensures ∙ ap (λ (i : ℕ). stage_at (whole_stage c.args.k c.args.g ∷ half_stage c.args.k c.args.g ∷ ace_shape (energies_in c.args.bytes.now c.args.e) c.args.k c.args.g ∷ asoe_shape (energies_in c.args.bytes.now c.args.e) c.args.k c.args.g ∷ []) i) (sym c.if-left-eq2.true) ∙ region_at (energies_in c.args.bytes.now c.args.e) c.args.k c.args.g c.args.left c.requires.paid_by.1.1
+returns-in-0 c = ap Ok c.whole.ensures ∙ ap (λ (i : ℕ). stage_at (whole_stage c.args.k c.args.g ∷ half_stage c.args.k c.args.g ∷ ace_shape (lent c.args.e) c.args.k c.args.g ∷ asoe_shape (lent c.args.e) c.args.k c.args.g ∷ []) i) (sym c.in-0.is) ∙ region_at (lent c.args.e) c.args.k c.args.g c.args.left c.requires.paid_by.1.1
 
-pub returns : goal.returns
+pub returns-in-1 : goal.returns-in-1
 unfolding stage_at
-returns c = let e : c.args.left ≡ 3 = omega (arith, c.requires.left_bound, c.if-left-eq2.false, c.if-left-eq1.false, c.if-left-eq0.false) in ap (λ (x : Cut). cutoff.Cut x) c.by_asoe.ensures ∙ ap (λ (i : ℕ). stage_at (whole_stage c.args.k c.args.g ∷ half_stage c.args.k c.args.g ∷ ace_shape (energies_in c.args.bytes.now c.args.e) c.args.k c.args.g ∷ asoe_shape (energies_in c.args.bytes.now c.args.e) c.args.k c.args.g ∷ []) i) (sym (e)) ∙ region_at (energies_in c.args.bytes.now c.args.e) c.args.k c.args.g c.args.left c.requires.paid_by.1.1
+returns-in-1 c = ap Ok c.half.ensures ∙ ap (λ (i : ℕ). stage_at (whole_stage c.args.k c.args.g ∷ half_stage c.args.k c.args.g ∷ ace_shape (lent c.args.e) c.args.k c.args.g ∷ asoe_shape (lent c.args.e) c.args.k c.args.g ∷ []) i) (sym c.in-1.is) ∙ region_at (lent c.args.e) c.args.k c.args.g c.args.left c.requires.paid_by.1.1
+
+pub returns-in-2 : goal.returns-in-2
+unfolding stage_at
+returns-in-2 c = ap Ok (ace_is _ _ (lent c.args.e) c.half_part.ensures c.lines.ensures) ∙ ap (λ (i : ℕ). stage_at (whole_stage c.args.k c.args.g ∷ half_stage c.args.k c.args.g ∷ ace_shape (lent c.args.e) c.args.k c.args.g ∷ asoe_shape (lent c.args.e) c.args.k c.args.g ∷ []) i) (sym c.in-2.is) ∙ region_at (lent c.args.e) c.args.k c.args.g c.args.left c.requires.paid_by.1.1
+
+pub returns-in_default : goal.returns-in_default
+unfolding stage_at
+returns-in_default c = let e : c.args.left ≡ 3 = omega arith in ap Ok (asoe_is _ _ (lent c.args.e) c.half_part-in_default.ensures c.lines-in_default.ensures) ∙ ap (λ (i : ℕ). stage_at (whole_stage c.args.k c.args.g ∷ half_stage c.args.k c.args.g ∷ ace_shape (lent c.args.e) c.args.k c.args.g ∷ asoe_shape (lent c.args.e) c.args.k c.args.g ∷ []) i) (sym e) ∙ region_at (lent c.args.e) c.args.k c.args.g c.args.left c.requires.paid_by.1.1

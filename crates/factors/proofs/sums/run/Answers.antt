@@ -1,18 +1,7 @@
--- `factors::sums::run` meets its contract. The invariant, `Summed`: the sums so far are those over all rows before the cursor, and the rows before and behind it lie on the right sides of the key. The measure is what is left. Assumes nothing.
-use Prim.Native.Nat.{◌-◌}
-use native.Mathlib.Omega.{arith}
-use Rattle.factors.specs.Inner.Runs.{plus, minus, default}
-use Rattle.factors.proofs.Runs.{summed_start, summed_more, summed_stop, summed_small}
+-- `factors::sums::run` meets its contract. The rows of a constraint stand side by side, so that the run to the first row of another has them all. Assumes nothing.
+use Rattle.std.proofs.Common.{of_calls}
+use Rattle.factors.proofs.Runs.{run_of_key}
 use Rattle.factors.proofs.sums.run.Goals as goal
 
-pub loop-t-init : goal.loop-t-init
-loop-t-init c = summed_start _ _ _ _ c.requires.stands
-
-pub returns-then-r-key : goal.returns-then-r-key
-returns-then-r-key c = summed_stop _ _ _ c.requires.walked c.loop-t.invariant c.loop-t-test.true c.unit_row-r.ensures c.if-r-key.true
-
-pub add-t-requires : goal.add-t-requires
-add-t-requires c = let h = summed_small _ _ _ c.requires.walked c.loop-t.invariant in (omega (arith, c.requires.walked.few), (omega (arith, h plus), (omega (arith, h minus), omega (arith, h default))))
-
-pub loop-t-preserved : goal.loop-t-preserved
-loop-t-preserved c = summed_more _ _ _ c.loop-t.invariant c.loop-t-test.true c.unit_row-r.ensures c.if-r-key.false c.add-t.ensures
+pub returns : goal.returns
+returns c = run_of_key _ _ _ _ c.requires.walked c.requires.stands (c.run_by.ensures _ (λ r last b e. search (of_calls, e)))

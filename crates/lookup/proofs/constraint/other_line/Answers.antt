@@ -7,8 +7,8 @@ pub returns-then-r-eq-CONTINGENCY : goal.returns-then-r-eq-CONTINGENCY
 returns-then-r-eq-CONTINGENCY c = let x = c.share_of-share.ensures in
     other_plain _ _ _ _ c.requires.i_in_bounds c.if-r-eq-CONTINGENCY.true (rw (x.0, x.1) at c.contingency_line.ensures)
 
-pub residual_of-x-requires : goal.residual_of-x-requires
-residual_of-x-requires c = record { constraint_rule = c.requires.rests.rule; small_pools = rw c.pools_of.ensures (pools_small _ c.requires.rests.rule) }
+pub residual_of-x-requires-clause-small_pools : goal.residual_of-x-requires-clause-small_pools
+residual_of-x-requires-clause-small_pools c = rw c.pools_of.ensures (pools_small _ c.requires.rests.rule)
 
 pub rest_line-requires : goal.rest_line-requires
 rest_line-requires c = let small = pools_small _ c.requires.rests.rule in
@@ -16,7 +16,6 @@ rest_line-requires c = let small = pools_small _ c.requires.rests.rule in
     record {
       i_in_bounds = rw (c.residual_of-x.ensures, c.pools_of.ensures, x.0, x.1) (rest_in _ _ _ _ c.requires.i_in_bounds c.if-r-eq-CONTINGENCY.false);
       small_residual = rw (c.residual_of-x.ensures, c.pools_of.ensures) (residual_small _ _ c.requires.rests.rule small);
-      shared = rw (x.0, x.1) c.requires.rests.shared;
     }
 
 pub returns : goal.returns

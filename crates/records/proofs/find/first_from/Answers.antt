@@ -1,5 +1,4 @@
 -- `records::find::first_from` meets its contract. The invariant, `Between`: the key's place is from low to high. The measure is what is left. Assumes nothing.
-use Prim.Native.Nat.{◌-◌}
 use native.Mathlib.Omega.{arith}
 use Rattle.sections.proofs.Halves.{between_above, between_before}
 use Rattle.records.proofs.find.first_from.Goals as goal

@@ -6,7 +6,8 @@ use mir.Syntax.{w64}
 use mir.Facts.{to_z-of_z}
 use borrow.Author.Rules.{sfits_of}
 use Rattle.amounts.specs.Shares.{cut_by_factor}
-use Rattle.recovery.proofs.UnitTurns.{above_small, below_small, rounds_by}
+use Rattle.recovery.specs.ByKind.{above_by, below_by}
+use Rattle.recovery.proofs.UnitTurns.{above_small, below_small, cut_low, rounds_by}
 use Rattle.recovery.proofs.units.row_cut.Goals as goal
 
 pub rounded_share-credit-requires : goal.rounded_share-credit-requires
@@ -19,5 +20,6 @@ pub returns : goal.returns
 unfolding cut_by_factor
 returns c = let above = rounds_by c.args.pool c.above.ensures c.rounded_share-credit.ensures in
     let below = rounds_by c.args.pool c.below.ensures c.rounded_share-charge.ensures in
-    to_z-of_z {w = w64} (sfits_of c.minus.type_inv) ∙ c.minus.ensures
-    ∙ ap₂ ◌-ℤ◌ (to_z-of_z {w = w64} {z = c.rounded_share-credit.result.cut} (sfits_of c.struct_told-1.given.1.0.1) ∙ above.cut) (to_z-of_z {w = w64} {z = c.rounded_share-charge.result.cut} (sfits_of c.struct_told-2-1.given.1.0.1) ∙ below.cut)
+    let told = to_z-of_z {w = w64} (sfits_of c.minus.type_inv) ∙ c.minus.ensures
+    ∙ ap₂ ◌-ℤ◌ (to_z-of_z {w = w64} {z = c.rounded_share-credit.result.cut} (sfits_of c.struct_told-1.given.1.0.1) ∙ above.cut) (to_z-of_z {w = w64} {z = c.rounded_share-charge.result.cut} (sfits_of c.struct_told-2-1.given.1.0.1) ∙ below.cut) in
+    (told, rw told (cut_low c.args.pool (above_by c.args.kind c.args.q) (below_by c.args.kind c.args.q)))

@@ -1,5 +1,5 @@
 -- `sharing::shares::gather` meets its contract. The invariant, `Gathered`: the sum is what the rows so far of the account own. It ends at another account's row or behind the last, and either way no row of the account is left. Assumes nothing.
-use Prim.Native.Nat.{◌-◌}
+use mathlib.Core.Path.{◌≡◌}
 use native.Mathlib.Omega.{arith}
 use Rattle.sharing.proofs.Groups.{gather_start, gather_more, gather_fits, gather_stop, gather_end}
 use Rattle.sharing.proofs.shares.gather.Goals as goal
@@ -17,4 +17,5 @@ pub overflow_add-own : goal.overflow_add-own
 overflow_add-own c = omega (arith, gather_fits _ _ _ c.requires.sorted (loop-j-preserved c))
 
 pub returns : goal.returns
-returns c = gather_end _ _ _ c.loop-j.invariant (omega arith)
+returns c = let e : c.loop-j.j ≡ c.args.n = omega arith in
+    rw e at (gather_end _ _ _ c.loop-j.invariant e)

@@ -1,23 +1,22 @@
 -- `recovery::kinds::Kind::above` meets its contract. The kind decides. Assumes nothing.
-use Rattle.recovery.specs.ByKind.{above_by}
+use mathlib.Core.Path.{◌≡◌, refl, ap}
+use Rattle.recovery.specs.declared.kinds.Factors.{Factors}
+use Rattle.recovery.specs.declared.kinds.Kind.{Kind}
+use Rattle.recovery.specs.declared.kinds.Kind.TheVariants.{Contingency, Fpp, Used, Unused, Payment}
+use Rattle.recovery.specs.ByKind.{factor_above}
 use Rattle.recovery.proofs.kinds.Kind.above.Goals as goal
 
-pub returns-in-Contingency : goal.returns-in-Contingency
-unfolding above_by
-returns-in-Contingency c = rw c.in-Contingency.is
-
 pub returns-in-Fpp : goal.returns-in-Fpp
-unfolding above_by
-returns-in-Fpp c = rw c.in-Fpp.is
+unfolding factor_above
+returns-in-Fpp g c = rw c.in-Fpp.is (ap (λ (f : Factors). f.above) c.factors.ensures)
 
-pub returns-in-Used : goal.returns-in-Used
-unfolding above_by
-returns-in-Used c = rw c.in-Used.is
+no_other : (kind : Kind) (q : Factors) → (kind ≡ Fpp → ⊥) → 0 ≡ factor_above kind q
+unfolding factor_above
+no_other Contingency q d = refl
+no_other Fpp q d = absurd (d refl)
+no_other Used q d = refl
+no_other Unused q d = refl
+no_other Payment q d = refl
 
-pub returns-in-Unused : goal.returns-in-Unused
-unfolding above_by
-returns-in-Unused c = rw c.in-Unused.is
-
-pub returns-in-Payment : goal.returns-in-Payment
-unfolding above_by
-returns-in-Payment c = rw c.in-Payment.is
+pub returns-in_default : goal.returns-in_default
+returns-in_default g c = no_other _ _ c.in_default.not-Fpp

@@ -1,0 +1,2 @@
+-- What contracts of inner functions and of functions between the crates speak of, and no promise to a caller outside.
+pub mod Shares

@@ -1,0 +1,10 @@
+-- `ground::write::put_u64` meets its contract. The bytes that std gives, copied to their place. Assumes nothing.
+use mathlib.Core.Path.{refl, ◌∙◌}
+use Rattle.ground.specs.Le.{le64}
+use Rattle.ground.proofs.Le.{le64_is}
+use Rattle.ground.proofs.Put.{put_copied}
+use Rattle.ground.proofs.write.put_u64.Goals as goal
+
+pub returns : goal.returns
+unfolding le64
+returns c = put_copied _ _ 8 (c.copy_from_slice.ensures.after ∙ c.to_le_bytes.ensures ∙ le64_is c.args.v) refl c.requires
