@@ -6,12 +6,32 @@ ghost use Rattle.totals.specs.Inner.Energies.{energies_in, PartLaid, EnergiesSou
 ghost use Rattle.locking.specs.Locking.{pick};
 ghost use Rattle.book.specs.Laid.{book_at};
 ghost use Rattle.book.specs.Inner.Accepted.{Sound};
-ghost use Rattle.accounts.specs.Inner.Energies.{energies_of};
+ghost use Rattle.accounts.specs.Inner.Energies.{energies_of, PartOf};
 
 use book::header::Header;
 use book::laid::LaidBook;
 use locking::Source;
 use totals::entries::{EnergyPart, Totals};
+
+// Where a book's energies lie in its bytes from the region entries on.
+pub fn part_of(h: Header) -> EnergyPart
+    ensures { PartOf h result }
+{
+    EnergyPart {
+        from: h.energies_at() - Header::ENTRIES,
+        rows: h.energies as usize,
+    }
+}
+
+// Where those of the book that settles a contract lie.
+pub fn part_in(source: Source, h: Header, locked: Header) -> EnergyPart
+    ensures { PartOf (pick source h locked) result }
+{
+    match source {
+        Source::Current => part_of(h),
+        Source::Locked => part_of(locked),
+    }
+}
 
 // A book's energies: its bytes from the region entries on, and where the energy rows lie in them. They keep checks 5, 6 and 9.
 #[derive(Clone, Copy)]
@@ -30,13 +50,9 @@ impl<'a> BookEnergies<'a> {
         requires { Sound (book_at book.now) }
         ensures { lent result ≡ energies_of (book_at book.now) }
     {
-        let h = book.header;
         BookEnergies {
             bytes: book.entries(),
-            part: EnergyPart {
-                from: h.energies_at() - Header::ENTRIES,
-                rows: h.energies as usize,
-            },
+            part: part_of(book.header),
         }
     }
 
