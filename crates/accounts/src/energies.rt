@@ -61,9 +61,9 @@ impl<'a> BookEnergies<'a> {
         requires { Sound (book_at book.now) × Sound (book_at locked.now) }
         ensures { lent result ≡ energies_of (pick source (book_at book.now) (book_at locked.now)) }
     {
-        match source {
-            Source::Current => BookEnergies::of(book),
-            Source::Locked => BookEnergies::of(locked),
+        BookEnergies {
+            bytes: locking::energies_of(source, book.bytes, locked.bytes),
+            part: part_in(source, book.header, locked.header),
         }
     }
 }

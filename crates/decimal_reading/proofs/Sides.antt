@@ -2,7 +2,7 @@
 -- is read, and what is read is the spelling of its number. Assumes nothing.
 use Prim.Native.Nat.{ℕ, zero, suc, ◌+◌, ◌-◌, ◌≤◌, ◌<◌}
 use mathlib.Core.Path.{◌≡◌, refl, sym, ap, ◌∙◌}
-use mathlib.Core.Bool.{Bool, beq, true, false, not, cond, true≢false, false≢true}
+use mathlib.Core.Bool.{Bool, beq, true, false, not, cond, ◌&&◌, true≢false, false≢true}
 use mathlib.Core.List.{List, [], ◌∷◌}
 use native.Mathlib.Omega.{arith}
 use borrow.Author.Tests.{eq-eqb, ne_eqb, eqb-true}
@@ -13,8 +13,8 @@ use Rattle.numbers.specs.Sign.{signed}
 use Rattle.ground.specs.Bytes.{byte_at, part}
 use Rattle.ground.specs.Inner.Put.{Wrote}
 use Rattle.decimal.specs.Decimal.{signed_text}
-use Rattle.decimal.specs.Standing.{is_digit, Number, Signed}
-use Rattle.decimal.proofs.Standing.{stands_two, stands_first, stands_rest, stands_one, stands_byte, stands_put}
+use Rattle.decimal.specs.Standing.{is_digit, Number, Signed, Decides}
+use Rattle.decimal.proofs.Standing.{stands_two, stands_first, stands_rest, stands_one, stands_byte, stands_put, decides_none, decides_one}
 use Rattle.decimal.proofs.Reading.{byte_within}
 use Rattle.decimal.proofs.Once.{number_once}
 use Rattle.decimal.proofs.Signs.{signed_plus, signed_minus, of_plus, of_minus, no_minus, signed_once}
@@ -113,8 +113,8 @@ module _ (charge : Bool) (d limit end : ℕ) (apart : is_digit end ≡ false) (s
     pub sided_none : ((x e : ℕ) → Then x e → ⊥) → (x e : ℕ) → SidedThen charge d limit end s k x e → ⊥
     sided_none c x e w = c x e (into x e w).0
 
-    pub sided_decided : 0 < end → (n : Taken) → Then n.value n.next → {u : Bool} → u ≡ is_sided charge t n.value → Reads (SidedThen charge d limit end s k) (then_some u n)
-    sided_decided l n c {u} o = by u refl
+    pub sided_found : 0 < end → (n : Taken) → Then n.value n.next → {u : Bool} → u ≡ is_sided charge t n.value → Reads (SidedThen charge d limit end s k) (then_some u n)
+    sided_found l n c {u} o = by u refl
       where
         by : (b : Bool) → u ≡ b → Reads (SidedThen charge d limit end s k) (then_some b n)
         by true j = out l n.value n.next c (sym o ∙ j)
@@ -122,6 +122,20 @@ module _ (charge : Bool) (d limit end : ℕ) (apart : is_digit end ≡ false) (s
             let r = into y m w in
             let z = (number_once c.number r.0.number).0 in
             false≢true (sym j ∙ o ∙ ap (is_sided charge t) z ∙ r.1)
+
+    -- the two together, of a flag, a value and an end
+    pub sided_decided : 0 < end → {g u : Bool} {x e : ℕ} → Decides Then g x e → u ≡ is_sided charge t x → Decides (SidedThen charge d limit end s k) (g && u) x e
+    sided_decided l {g} {u} {x} {e} c o = by g refl u refl
+      where
+        by : (a : Bool) → g ≡ a → (b : Bool) → u ≡ b → Decides (SidedThen charge d limit end s k) (a && b) x e
+        by true i true j = decides_one (out l x e (c.found i) (sym o ∙ j))
+        by true i false j =
+            decides_none x e
+            (λ y m w.
+            let r = into y m w in
+            let z = (number_once (c.found i).number r.0.number).0 in
+            false≢true (sym j ∙ o ∙ ap (is_sided charge t) z ∙ r.1))
+        by false i b j = decides_none x e (sided_none (c.none i))
 
   -- a text has one at a place
   pub sided_once : (x y e g : ℕ) → SidedThen charge d limit end s k x e → SidedThen charge d limit end s k y g → (x ≡ y) × (e ≡ g)
