@@ -1,2 +1,3 @@
 pub mod Tree
+pub mod Told
 pub mod Counting

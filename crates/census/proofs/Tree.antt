@@ -3,8 +3,7 @@ use Prim.Native.Nat.{ℕ, zero, suc, ◌+◌, ◌*◌, ◌-◌, ◌%◌, ◌≤�
 use mathlib.Core.Path.{◌≡◌, refl, ◌∙◌, sym, ap}
 use mathlib.Core.List.{List}
 use mathlib.Core.Bool.{Bool, true, false}
-use mathlib.Core.Logic.{⊎_elim, ∥∥₁_elim, ∥∥₁_map}
-use mathlib.Core.HLevel.{⊥_prop}
+use mathlib.Core.Logic.{⊎_elim}
 use native.Mathlib.Omega.{arith}
 use native.Mathlib.Nat.{eq-or-lt_of_le, le_of_suc-le-suc}
 use borrow.Author.Tests.{eqb-true, eqb-false, lt-ltb, le-ltb}
@@ -55,15 +54,13 @@ module _ (name : ℕ → ℕ) where
   pub place_new : (u a s : ℕ) {links : List ℕ} → Grown name u links → Place name links a s → get_or links s 0 ≤ 0 → seen name u a ≡ false
   place_new u a s {links} g p z = seen_none name u a none
     where
-      past : Found name links a → ⊥
-      past w =
+      none : (k : ℕ) → k < u → name k ≡ a → ⊥
+      none k l q =
+          let w : Found name links a = rw q at (g.found k l) in
           ⊎_elim
           (λ (m : w.depth < p.depth). (p.passed w.depth m).other w.own)
           (λ (m : p.depth ≤ w.depth). let f : 0 < get_or links s 0 = rw p.here (w.filled p.depth m) in omega arith)
           (lt_or_ge w.depth p.depth)
-
-      none : (k : ℕ) → k < u → name k ≡ a → ⊥
-      none k l q = ∥∥₁_elim (rw q at (g.found k l)) ⊥_prop past
 
   pub place_told : (u a s : ℕ) {links : List ℕ} → Grown name u links → Place name links a s → ltb 0 (get_or links s 0) ≡ seen name u a
   place_told u a s {links} g p =
@@ -89,6 +86,27 @@ module _ (name : ℕ → ℕ) where
       empty (suc n) zero = refl
       empty (suc n) (suc s) = empty n s
 
+  -- record u has a name that is known, and is left out
+  pub grown_old : (u s : ℕ) {a : ℕ} {links : List ℕ} → Grown name u links → a ≡ name u → Place name links a s → 0 < get_or links s 0 → Grown name (u + 1) links
+  grown_old u s {a} {links} g q p f =
+      record {
+        slots = g.slots;
+        rows = λ t. omega (arith, g.rows t);
+        rises = g.rises;
+        found = λ j l. ⊎_elim (λ (e : j ≡ u). rw (e, ← q) known) (λ (m : j < u). g.found j m) (eq-or-lt_of_le (last j l));
+      }
+    where
+      last : (j : ℕ) → j < u + 1 → j ≤ u
+      last j l = omega arith
+
+      known : Found name links a
+      known =
+          record {
+            depth = p.depth;
+            filled = λ e l. ⊎_elim (λ (h : e ≡ p.depth). rw (h, ← p.here) f) (λ (h : e < p.depth). (p.passed e h).filled) (eq-or-lt_of_le l);
+            own = rw (← p.here) (p.own f);
+          }
+
   -- record u has a new name, and is put at its place
   pub grown_more : (u s : ℕ) {a : ℕ} {links links' : List ℕ} → Grown name u links → a ≡ name u → Place name links a s → s < 256 + 2 * u → u < 600 → get_or links s 0 ≤ 0 → links' ≡ set links s (u + 1) → Grown name (u + 1) links'
   grown_more u s {a} {links} g q p near few z e =
@@ -97,7 +115,7 @@ module _ (name : ℕ → ℕ) where
         slots = length-set links s (u + 1) ∙ g.slots;
         rows = λ t. row t (eqb t s) refl;
         rises = λ t. rise t (eqb t s) refl;
-        found = λ j l. ⊎_elim (λ (h : j ≡ u). rw (h, ← q) (∣ put ∣₁)) (λ (m : j < u). ∥∥₁_map (g.found j m) (kept_found links s (u + 1) z name (name j))) (eq-or-lt_of_le (last j l));
+        found = λ j l. ⊎_elim (λ (h : j ≡ u). rw (h, ← q) put) (λ (m : j < u). kept_found links s (u + 1) z name (name j) (g.found j m)) (eq-or-lt_of_le (last j l));
       })
     where
       last : (j : ℕ) → j < u + 1 → j ≤ u
@@ -162,3 +180,20 @@ module _ (name : ℕ → ℕ) where
         near = rw c (omega (arith, w.small, rw (← w.told) at (g.rows s)));
         passed = λ i m. ⊎_elim (λ (h : i ≡ w.depth). rw (h, ← w.here, ← w.told) (record { filled = f; other = λ q. d (e ∙ rw jl q) })) (λ (h : i < w.depth). w.passed i h) (eq-or-lt_of_le (le_of_suc-le-suc m));
       }
+
+  -- the link is to a record of the tree
+  pub way_row : (u a : ℕ) {links : List ℕ} {s bits link : ℕ} → Grown name u links → Way u links a s bits link → link ≤ u
+  way_row u a {links} {s} g w = rw w.told (g.rows s)
+
+  -- the way goes up in the list
+  pub way_up : (u a : ℕ) {links : List ℕ} {s bits link s' : ℕ} → Grown name u links → Way u links a s bits link → 0 < link → s' ≡ child_of link bits → s < s'
+  way_up u a {links} {s} g w f c = rw c (omega (arith, rw (← w.told) at (g.rises s (rw (← w.told) f))))
+
+  -- it has the name
+  pub way_found : (u a : ℕ) {links : List ℕ} {s bits link j b : ℕ} → Way u links a s bits link → j ≡ link - 1 → b ≡ name j → b ≡ a → Place name links a s
+  way_found u a w jl e d =
+      record { depth = w.depth; here = w.here; passed = w.passed; own = λ f. rw (← w.told, ← jl, ← e) d }
+
+  -- or there is none
+  pub way_end : (u a : ℕ) {links : List ℕ} {s bits link : ℕ} → Way u links a s bits link → link ≤ 0 → Place name links a s
+  way_end u a w z = record { depth = w.depth; here = w.here; passed = w.passed; own = λ f. absurd (omega (arith, w.told)) }

@@ -89,6 +89,9 @@ module _ (t : ℕ → Bool) (e : ℕ) where
   pub fill_room : (u w : ℕ) → Filling t e u w → e < u + 64 → w < 9_223_372_036_854_775_808
   fill_room u w f l = omega (arith, f.small, room_few (e - u) (omega arith))
 
+  pub fill_done : (m k w : ℕ) → Filling t e k w → ((u : ℕ) → u < m → u < k + 64 → u < e) → Word t m k w
+  fill_done m k w f h = record { bit = λ j l d. f.bit j (h (k + j) d (omega arith)) }
+
 -- ---- words in a row
 
 -- the words before word k have their marks
@@ -97,6 +100,9 @@ pub record Marking (t : ℕ → Bool) (m k : ℕ) (marks : List ℕ) : Type 0 wh
   pub each : (u : ℕ) → u < m → u < k * 64 → marked marks u ≡ t u
 
 module _ (t : ℕ → Bool) (m : ℕ) where
+  pub mark_none : {marks : List ℕ} → length marks ≡ 10 → Marking t m 0 marks
+  mark_none l = record { long = l; each = λ u a b. absurd (omega (arith, b)) }
+
   pub mark_more : (k : ℕ) {w : ℕ} {marks marks' : List ℕ} → Marking t m k marks → k < 10 → Word t m (k * 64) w → marks' ≡ set marks k w → Marking t m (k + 1) marks'
   unfolding left_for
   mark_more k {w} {marks} g l d e =
@@ -114,6 +120,9 @@ module _ (t : ℕ → Bool) (m : ℕ) where
           let word : u / 64 ≡ k = omega arith in
           let row : k * 64 + u % 64 ≡ u = omega arith in
           rw (word, get_or-set_same marks k w 0 (rw g.long l)) (rw row at (d.bit (u % 64) (omega arith) (rw row a)))
+
+  pub mark_done : (k : ℕ) {marks : List ℕ} → Marking t m k marks → m ≤ k * 64 → (u : ℕ) → u < m → marked marks u ≡ t u
+  mark_done k g h u l = g.each u l (omega arith)
 
 -- ---- marks taken from their words, row by row
 

@@ -14,10 +14,10 @@ pub(crate) struct Named<'a> {
     pub(crate) ghost laid: { NamesLaid book.now rows },
 }
 
-// The links are the tree of all its unit rows.
+// The links are the tree of all its unit rows. A ghost field can only say that there is one (∥ ∥₁); `grown_told` makes it the tree again.
 #[derive(Clone, Copy)]
 pub(crate) struct Planted<'a, 'b> {
     pub(crate) named: Named<'a>,
     pub(crate) links: &'b [u16; 1456],
-    pub(crate) ghost grown: { Grown (unit_account (units_of named.book.now named.rows)) named.rows.m links.now },
+    pub(crate) ghost grown: { ∥ Grown (unit_account (units_of named.book.now named.rows)) named.rows.m links.now ∥₁ },
 }

@@ -216,3 +216,23 @@ module _ (unit : ℕ → UnitRow) (m id : ℕ) where
           let few = w.few in
           let s = cuts_made u (omega arith) h in
           (w.rules u l, omega (arith, s.small))
+
+-- ---- what was cut off the constraint's rows, by a loop over them
+
+module _ (unit : ℕ → UnitRow) (m id : ℕ) (kind : Kind) (pool : ℕ) where
+  pub record Cutting (u : ℕ) (x : ℤ) : Type 0 where
+    pub run : Run (key_of unit) m id u
+    pub cuts : CutsAre unit m id kind pool u x
+
+  -- the loop's test holds of row u
+  module _ (u : ℕ) {x : ℤ} {t : Bool} (h : Cutting u x) (e : t ≡ at_key (key_of unit) m id u) (a : t ≡ true) where
+    -- q is row u, and z what is cut off it
+    module _ {q : UnitRow} (i : q ≡ unit u) (w : Walked unit m) where
+      pub cutting_more : {z y : ℤ} → z ≡ cut_by_factor pool (above_by kind q) (below_by kind q) → y ≡ x +ℤ z → Cutting (u + 1) y
+      cutting_more {z} {y} d p =
+          let row = at_key_lem (key_of unit) m id u (rw e at a) in
+          let cut : z ≡ cut_by_factor pool (above_by kind (unit u)) (below_by kind (unit u)) = d ∙ ap (λ (q : UnitRow). cut_by_factor pool (above_by kind q) (below_by kind q)) i in
+          record {
+            run = run_next _ m id u h.run row.0 row.1;
+            cuts = cuts_more unit m id w kind pool {post = λ x q y. y ≡ x +ℤ cut_by_factor pool (above_by kind q) (below_by kind q)} (λ x q y p. p) u row.0 row.1 h.cuts (p ∙ ap (λ (c : ℤ). x +ℤ c) cut);
+          }

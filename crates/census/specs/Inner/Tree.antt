@@ -46,10 +46,9 @@ pub record Found (name : ℕ → ℕ) (links : List ℕ) (a : ℕ) : Type 0 wher
   pub filled : (e : ℕ) → e ≤ depth → 0 < link_at links a e
   pub own : name (link_at links a depth - 1) ≡ a
 
--- the tree of the records 0 .. u - 1: each name is found, and a link stands before the children of its record. That there is such a way is all that
--- is said of one (∥ ∥₁), so that a struct can have the fact as a ghost field
+-- the tree of the records 0 .. u - 1: each name is found, and a link stands before the children of its record
 pub record Grown (name : ℕ → ℕ) (u : ℕ) (links : List ℕ) : Type 0 where
   pub slots : length links ≡ 1456
   pub rows : (s : ℕ) → get_or links s 0 ≤ u
   pub rises : (s : ℕ) → 0 < get_or links s 0 → s < 254 + 2 * get_or links s 0
-  pub found : (j : ℕ) → j < u → ∥ Found name links (name j) ∥₁
+  pub found : (j : ℕ) → j < u → Found name links (name j)
