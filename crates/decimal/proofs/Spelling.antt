@@ -4,7 +4,7 @@ use mathlib.Core.Path.{◌≡◌, refl, sym, ap, ◌∙◌}
 use mathlib.Core.List.{List, ◌∷◌, ◌++◌}
 use mathlib.Core.Logic.{⊎_elim}
 use native.Mathlib.Omega.{arith}
-use native.Mathlib.Nat.{le_refl, pow-suc, pow-succ', one-le-pow, div-div-eq-div-mul, div-one, div-le_self, div-lt_iff_lt-mul}
+use native.Mathlib.Nat.{le_refl, pow-suc, pow-succ', one-le-pow, pow-le-pow_right, div-div-eq-div-mul, div-one, div-le_self, div-lt_iff_lt-mul}
 use native.Mathlib.Numerals.{add-one}
 use borrow.Author.Tests.{lt-ltb, le-ltb}
 use lib.ListN.{length, length-append}
@@ -65,6 +65,11 @@ few_digits (suc n) x h =
 tenth : (x : ℕ) → 10 ≤ x → length (decimal_of x) ≡ length (decimal_of (x / 10)) + 1
 tenth x h = rw (more_digits x h, length-append) refl
 
+-- a number below 10 ^ n has no more than n
+no_more : (n : ℕ) → 1 ≤ n → (x : ℕ) → x < 10 ^ n → length (decimal_of x) ≤ n
+no_more zero l x h = absurd (omega arith)
+no_more (suc n) l x h = few_digits n x h
+
 -- a number from 10 ^ n on has more than n
 many_digits : (n x : ℕ) → 10 ^ n ≤ x → suc n ≤ length (decimal_of x)
 many_digits zero x h = some_digit x
@@ -79,6 +84,33 @@ digits_by_power x y (suc n) e h g =
     let reached : 10 ≤ y = omega (arith, rw pow-suc at h, one-le-pow n 10 (omega arith)) in
     let same : y ≡ x = omega arith in
     omega (arith, many_digits (suc n) x (rw same at h), few_digits (suc n) x (rw pow-suc (omega arith)))
+
+-- a loop that counts digits: x reaches the powers of 10 below limit, of which there are n with 1
+pub record Reached (x limit n : ℕ) : Type 0 where
+  pub power : limit ≡ 10 ^ n
+  pub some : 1 ≤ n
+  pub within : n ≤ 19
+  pub digits : n ≤ length (decimal_of x)
+
+pub reached_none : (x : ℕ) → Reached x 10 1
+reached_none x = record { power = refl; some = omega arith; within = omega arith; digits = some_digit x }
+
+module _ {x limit n : ℕ} (r : Reached x limit n) where
+  more_than : limit ≤ x → suc n ≤ length (decimal_of x)
+  more_than h = many_digits n x (rw r.power at h)
+
+  pub reached_more : limit ≤ x → (n ≡ 19 → ⊥) → Reached x (limit * 10) (n + 1)
+  reached_more h d =
+      record { power = rw (add-one, pow-suc, r.power); some = omega arith; within = omega (arith, r.within); digits = omega (arith, more_than h) }
+
+  pub reached_fits : limit ≤ x → (n ≡ 19 → ⊥) → limit * 10 < 2 ^ 64
+  reached_fits h d = omega (arith, r.power, pow-le-pow_right {n = 10} (omega arith) {i = n} {j = 18} (omega (arith, r.within)))
+
+  pub reached_last : limit ≤ x → n ≡ 19 → x < 2 ^ 64 → 20 ≡ length (decimal_of x)
+  reached_last h e f = omega (arith, more_than h, few_digits 19 x (omega arith))
+
+  pub reached_all : x < limit → n ≡ length (decimal_of x)
+  reached_all h = omega (arith, r.digits, no_more n r.some x (rw r.power at h))
 
 -- ---- the last digits
 
