@@ -1,18 +1,23 @@
 -- A run over the unit rows of one constraint, row by row, and what its constraint's test shows. Assumes nothing.
-use Prim.Native.Nat.{ℕ, zero, suc, ◌+◌, ◌-◌, ◌≤◌, ◌<◌}
-use mathlib.Core.List.{[], ◌∷◌}
+use Prim.Native.Nat.{ℕ, zero, suc, ◌+◌, ◌-◌, ◌*◌, ◌≤◌, ◌<◌}
+use mathlib.Core.List.{List, [], ◌∷◌}
 use mathlib.Core.Path.{◌≡◌, refl, sym, ap, ◌∙◌}
-use mathlib.Core.Bool.{Bool, true, false, not, ◌&&◌, ◌||◌}
+use mathlib.Core.Bool.{Bool, true, false, cond, not, ◌&&◌, ◌||◌}
 use mathlib.Core.Logic.{⊎_elim}
 use borrow.Author.Tests.{leb-true, eqb-true, ltb-true, lt-ltb, le-ltb, le-leb, eq-eqb, not-true, not-false}
 use lib.Dec.{eqb, leb, ltb}
 use native.Mathlib.Omega.{arith}
+use Rattle.ground.specs.Bytes.{u32_at}
+use Rattle.numbers.specs.Sizes.{size_below, above_of, below_of}
 use Rattle.ground.proofs.Every.{every, all}
 use Rattle.sections.specs.Order.{rises_by, pair_below}
 use Rattle.sections.specs.Inner.Walk.{Under}
+use Rattle.sections.specs.Total.{keyed}
 use Rattle.sections.proofs.Cases.{no_yes}
 use Rattle.sections.proofs.Order.{rises_first, rises_later, rises_step}
 use Rattle.sections.proofs.Search.{lt_or_ge}
+use Rattle.sections.proofs.Total.{total_bound, keyed_le}
+use Rattle.records.specs.Rows.{unit_row}
 use Rattle.rules.specs.Rules.{unit_below}
 use Rattle.records.specs.declared.rows.Constraint.{Constraint}
 use Rattle.records.specs.declared.rows.UnitRow.{UnitRow}
@@ -22,7 +27,7 @@ use Rattle.factors.specs.Inner.Facts.{sums_ok}
 use Rattle.factors.specs.Inner.Runs.{Factor, plus, minus, default, of_row, of_sums, unit_before, RunBy}
 use Rattle.factors.specs.declared.sums.Sums.{Sums}
 use Rattle.factors.proofs.Runs.{of_three, same_sums, before_first, before_more, from_is_over}
-use Rattle.unit_pass.specs.Inner.Units.{follows, small_sums, run_holds, Followed, Taken}
+use Rattle.unit_pass.specs.Inner.Units.{follows, small_sums, run_holds, Followed, Along, Taken}
 
 -- ---- order
 
@@ -116,6 +121,42 @@ module _ (row : ℕ → UnitRow) (m k start : ℕ) where
           (λ (b : t.next ≤ x.next). omega arith)
           (lt_or_ge x.next t.next))
           (lt_or_ge t.next x.next)
+
+-- ---- sums that fit
+
+plus_narrow : (w : ℕ) → above_of w ≤ 4_294_967_295
+unfolding above_of
+plus_narrow w = by (ltb w 2_147_483_648) refl
+  where
+    by : (t : Bool) → ltb w 2_147_483_648 ≡ t → cond t w 0 ≤ 4_294_967_295
+    by true e = let l = ltb-true w 2_147_483_648 e in omega arith
+    by false e = omega arith
+
+size_narrow : (w : ℕ) → size_below w ≤ 4_294_967_295
+size_narrow w = omega arith
+
+minus_narrow : (w : ℕ) → below_of w ≤ 4_294_967_295
+unfolding below_of
+minus_narrow w = by (ltb w 2_147_483_648)
+  where
+    by : (t : Bool) → cond t 0 (size_below w) ≤ 4_294_967_295
+    by true = omega arith
+    by false = size_narrow w
+
+module _ (s : List ℕ) where
+  row_narrow : (i : ℕ) (c : Factor) → of_row c (unit_row s i) ≤ 4_294_967_295
+  unfolding unit_row
+  row_narrow i plus = plus_narrow (u32_at s (i * 20 + 12))
+  row_narrow i minus = minus_narrow (u32_at s (i * 20 + 12))
+  row_narrow i default = size_narrow (u32_at s (i * 20 + 16))
+
+  -- sums of at most 600 sizes of 32 bits
+  bound : (c : Factor) (n k : ℕ) → n ≤ 600 → sum_over (unit_row s) n k (of_row c) ≤ 3_000_000_000_000
+  bound c n k few =
+      omega (arith, total_bound (keyed (key_of (unit_row s)) k (λ u. of_row c (unit_row s u))) 4_294_967_295 n (λ i _. keyed_le (key_of (unit_row s)) k (λ u. of_row c (unit_row s u)) 4_294_967_295 i (row_narrow i c)))
+
+  pub along_fits : (m k start : ℕ) {t : Sums} → m ≤ 600 → Along (unit_row s) m k start t → (c : Factor) → of_sums c t ≤ 3_000_000_000_000
+  along_fits m k start {t} few h c = rw (h.sum c) (bound c t.next k (omega (arith, h.high)))
 
 -- ---- the test of a constraint
 
