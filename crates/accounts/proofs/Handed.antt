@@ -1,7 +1,7 @@
 -- The energies of the book that was picked of two, where b, h and l, k are the books' bytes and headers: r is the section that was handed back, and p where
 -- the rows lie there. They are there, and a sound book's are sound. Assumes nothing.
 use Prim.Native.Nat.{ℕ}
-use mathlib.Core.Path.{◌≡◌, sym, ap, ◌∙◌}
+use mathlib.Core.Path.{◌≡◌, refl, sym, ap, ◌∙◌}
 use mathlib.Core.List.{List}
 use Rattle.locking.specs.Locking.{pick}
 use Rattle.locking.specs.Inner.Handed.{Handed}

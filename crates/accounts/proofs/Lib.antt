@@ -3,3 +3,4 @@ pub mod Lists
 pub mod Turns
 pub mod Own
 pub mod Parts
+pub mod Handed
