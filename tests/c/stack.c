@@ -8,8 +8,9 @@
  * reconciliation file, and a payment, a base cost, how many rows a reconciliation file
  * has and its last row (the most over few dispatch rows or lines and many). Of the calls
  * on books and statements it is the most over that book and the largest ones, alone and
- * with a locked book as large, and the one of the longest file. Exits non-zero if one of
- * them passes its limit.
+ * with a locked book as large, and the one of the longest file; of the calls that check
+ * books also over books that are refused, by each number of a check. Exits non-zero if
+ * one of them passes its limit.
  */
 #define _XOPEN_SOURCE 700
 
@@ -59,6 +60,8 @@ static uint8_t text[MANY_ROWS * LONGEST_LINE_LEN];
 static size_t book_len, locked_len, statement_len, rows_len, text_rows;
 static uint32_t account;
 static uint64_t pool, stage, refusal;
+/* What the calls that are measured have to answer. */
+static uint64_t expected;
 
 static void nothing(void)
 {
@@ -219,14 +222,15 @@ static struct measured {
 
 enum { CALLS = sizeof calls / sizeof calls[0], ON_BOOKS = CALLS - 4 };
 
-/* A refused call may end early, and say little. */
+/* A call that is refused by another number may end early, and say little. */
 static void measure(struct measured *measured)
 {
     size_t used;
 
     measured->call();
-    if (refusal != 0) {
-        fprintf(stderr, "%s: refused %" PRIu64 "\n", measured->name, refusal);
+    if (refusal != expected) {
+        fprintf(stderr, "%s: refused %" PRIu64 ", not %" PRIu64 "\n",
+                measured->name, refusal, expected);
         exit(2);
     }
     used = used_by(measured->call);
@@ -304,6 +308,67 @@ static void measure_largest(void)
     measure_books();
 }
 
+/* ---- Books that are refused. */
+
+/* The calls that check books. */
+static void measure_refused(uint64_t number)
+{
+    size_t i;
+
+    expected = number;
+    for (i = 0; i < ON_BOOKS; i++) {
+        if (calls[i].limit != READING_LIMIT) {
+            measure(&calls[i]);
+        }
+    }
+    expected = 0;
+}
+
+/* The largest book with a locked one, and one field of either otherwise. */
+static void measure_fault(uint64_t number, int is_of_locked, size_t at,
+                          size_t width, uint64_t value)
+{
+    make_largest(book, 0, 2);
+    make_largest(locked, 1, 1);
+    put(is_of_locked ? locked : book, at, width, value);
+    measure_refused(number);
+}
+
+/* A constraint, and no energy to share its cost by. */
+static void make_without_energy(void)
+{
+    memset(book, 0, ENTRIES_END + CONSTRAINT_LEN);
+    put_front(book, "RCB");
+    put_counts(book, 1, 0, 0, 0);
+    put_constraint(book + ENTRIES_END, 1, 1, 31, 0, BILLION);
+}
+
+static void measure_all_refused(void)
+{
+    const size_t units = ENTRIES_END + MOST_CONSTRAINTS * CONSTRAINT_LEN;
+    const size_t last_unit = units + (MOST_UNITS - 1) * UNIT_LEN;
+
+    account = ACCOUNT;
+    book_len = locked_len = LARGEST_LEN;
+    pool = stage = 0;
+    measure_fault(2, 0, 0, 1, 0);                    /* the mark */
+    measure_fault(3, 0, 6, 2, 0);                    /* interval 0 */
+    measure_fault(4, 0, 20, 2, MOST_CONTRACTS - 1);  /* a contract less */
+    measure_fault(5, 0, LAST_CONTRACT_AT + 4, 1, 0); /* kind 0 */
+    measure_fault(6, 0, LAST_CONTRACT_AT, 4, 1);     /* the first one's id */
+    measure_fault(7, 0, last_unit, 4, MOST_CONSTRAINTS + 1); /* unknown */
+    measure_fault(8, 0, units + 12, 4, 0);           /* a CF of 0 */
+    measure_fault(9, 0, HEADER_LEN, 4, 0);           /* NSW1 without ACE */
+    measure_fault(18, 1, HEADER_LEN, 4, 0);
+    locked_len = 0;
+    measure_fault(17, 0, 0, 1, 'R');
+    book_len = ENTRIES_END - 1;
+    measure_refused(1);
+    book_len = ENTRIES_END + CONSTRAINT_LEN;
+    make_without_energy();
+    measure_refused(10);
+}
+
 /* Few dispatch rows and many, and as many lines of a file. */
 static void measure_rows(void)
 {
@@ -379,6 +444,7 @@ int main(int argc, char **argv)
 
     measure_books();
     measure_largest();
+    measure_all_refused();
     measure_rows();
     return report() ? EXIT_SUCCESS : EXIT_FAILURE;
 }

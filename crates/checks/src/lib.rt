@@ -41,6 +41,8 @@ fn order(book: &LaidBook) -> Result<(), Refusal>
 }
 
 // 7: a unit row that names no constraint here, or one of mode 0.
+// Not inlined, here and for 8, so that what these want of the stack is gone before 9 is asked.
+#[inline(never)]
 fn names(book: &LaidBook) -> Result<(), Refusal>
     requires { Ordered (book_at book.now) }
     ensures { result ≡ check7 (book_at book.now) }
@@ -56,6 +58,7 @@ fn names(book: &LaidBook) -> Result<(), Refusal>
 }
 
 // 8: factor sums that fail.
+#[inline(never)]
 fn factor_sums(book: &LaidBook) -> Result<(), Refusal>
     requires fields { Fields (book_at book.now) }
     requires ordered { Ordered (book_at book.now) }
