@@ -8,16 +8,17 @@ use crate::constants;
 use crate::dependencies;
 use crate::edge;
 use crate::edits;
+use crate::ghosts::{all_declarations, public_declarations, Declaration};
 use crate::layout;
 use crate::page;
 use crate::promises;
-use crate::rattle::{all_functions, public_functions, Function};
+use crate::rattle::{all_functions, first_part, public_functions, Function};
 use crate::repository::Repository;
 use crate::rules;
 use crate::stack;
 use crate::strays;
 use crate::theorems;
-use crate::word_for_word::entry;
+use crate::word_for_word::entries;
 
 type Guard = fn(&Repository) -> Vec<String>;
 
@@ -97,12 +98,20 @@ fn change_promise(
         let changed = (1..).zip(text.lines()).filter_map(|(number, line)| {
             let is_promise = line.trim_start().starts_with("ensures");
             match is_promise && (first..=last).contains(&number) {
-                true => change(line),
+                true => ended_as(line, change(line)),
                 false => Some(line.to_owned()),
             }
         });
         changed.map(|line| line + "\n").collect()
     });
+}
+
+/// A method that a trait declares ends in a semicolon, behind its last clause: this stays.
+fn ended_as(line: &str, changed: Option<String>) -> Option<String> {
+    match line.ends_with(';') {
+        true => Some(changed.unwrap_or_default().trim_end_matches(';').to_owned() + ";"),
+        false => changed,
+    }
 }
 
 /// Has a guard notice a change of the promise of each public function.
@@ -116,15 +125,32 @@ fn notices_of_each(guard: Guard, change: impl Fn(&str) -> Option<String>) {
     }
 }
 
+/// How many methods the public traits of a file declare.
+fn methods_of_traits(text: &str) -> usize {
+    let mut is_in_trait = false;
+    let methods = text.lines().filter(|line| {
+        is_in_trait = line.starts_with("pub trait ") || is_in_trait && *line != "}";
+        is_in_trait && line.trim_start().starts_with("fn ")
+    });
+    methods.count()
+}
+
 /// The guards' own reading of the code misses none: each line that begins a public
-/// function is one, and each that begins a clause is one of a function's.
+/// function is one, or a method of a public trait, and each that begins a clause is one of
+/// a function's.
 #[test]
 fn every_public_function_is_read() {
     let repository = Repository::read();
     let code = repository.between("crates/", ".rt");
+    let methods: usize = code.map(|(_, text)| methods_of_traits(text)).sum();
+    assert!(methods >= 5, "the traits have {methods} methods");
+    let code = repository.between("crates/", ".rt");
     let lines = code.flat_map(|(_, text)| text.lines()).map(str::trim_start);
     let starts = lines.filter(|line| line.starts_with("pub ") && line.contains("fn "));
-    assert_eq!(public_functions(&repository).len(), starts.count());
+    assert_eq!(
+        public_functions(&repository).len(),
+        starts.count() + methods
+    );
     let begins_a_clause = |line: &&str| {
         let words = ["requires", "ensures"];
         words.contains(&line.split(' ').next().unwrap_or(line))
@@ -135,6 +161,191 @@ fn every_public_function_is_read() {
     let functions = all_functions(&repository).into_iter();
     let read = functions.flat_map(|function| function.clauses);
     assert_eq!(read.count(), clauses);
+}
+
+fn begins_a_ghost_item(line: &str) -> bool {
+    let line = line.trim_start();
+    let fronts = ["pub ", "pub(crate) "];
+    let bare = fronts.iter().find_map(|front| line.strip_prefix(front));
+    let bare = bare.unwrap_or(line);
+    bare.starts_with("ghost ") && !bare.starts_with("ghost use ")
+}
+
+/// Nor does it miss a ghost item: each line that begins one has one.
+#[test]
+fn every_ghost_item_is_read() {
+    let repository = Repository::read();
+    let code = repository.between("crates/", ".rt");
+    let lines = code.flat_map(|(_, text)| text.lines());
+    let lines = lines.filter(|line| begins_a_ghost_item(line)).count();
+    let declarations = all_declarations(&repository);
+    let read: usize = declarations.iter().map(|one| one.items.len()).sum();
+    assert_eq!(read, lines);
+    assert!(lines >= 45, "the code has {lines}");
+}
+
+/// The numbers of a declaration's lines that begin a ghost item.
+fn ghost_lines(repository: &Repository, declaration: &Declaration) -> Vec<usize> {
+    let (first, last) = declaration.lines;
+    let lines = (1..).zip(repository.text(&declaration.file).lines());
+    let lines =
+        lines.filter(|(number, line)| (first..=last).contains(number) && begins_a_ghost_item(line));
+    lines.map(|(number, _)| number).collect()
+}
+
+/// Has the guard of the contracts notice a change of each ghost item that other crates
+/// see; where `change` gives nothing, it goes.
+fn notices_of_each_ghost(change: impl Fn(&str) -> Option<String>) {
+    let repository = Repository::read();
+    let watch = Watch::over(&repository, promises::differing_contracts);
+    for declaration in public_declarations(&repository) {
+        let lines = ghost_lines(&repository, &declaration);
+        assert_eq!(lines.len(), declaration.items.len());
+        for number in lines {
+            watch.notices(&declaration.path, |changed| {
+                rewrite(changed, &declaration.file, |text| {
+                    let lines = (1..).zip(text.lines()).filter_map(|(at, line)| match at {
+                        at if at == number => change(line),
+                        _ => Some(line.to_owned()),
+                    });
+                    lines.map(|line| line + "\n").collect()
+                });
+            });
+        }
+    }
+}
+
+#[test]
+fn a_ghost_item_that_is_another_is_noticed() {
+    notices_of_each_ghost(|line| Some(line.replacen("{ ", "{ 0 ≡ 1 → ", 1)));
+}
+
+#[test]
+fn a_ghost_item_that_is_gone_is_noticed() {
+    notices_of_each_ghost(|_| None);
+}
+
+#[test]
+fn a_ghost_item_that_is_new_is_noticed() {
+    notices_of_each_ghost(|line| {
+        let end = line.chars().last().expect("it has a last sign");
+        Some(format!("    ghost never: {{ 0 ≡ 1 }}{end}\n{line}"))
+    });
+}
+
+/// A file, what stands there, what is put in its place, and what is then complained of: a
+/// book that is laid, and a book's energies, that ask more or say less; a kind of record,
+/// and what becomes of a field, of which less is promised.
+const SAID_OTHERWISE: [[&str; 4]; 8] = [
+    [
+        "crates/book/src/laid.rt",
+        "{ Laid bytes.now header }",
+        "{ Laid bytes.now header × (0 < header.units) }",
+        "book::laid::LaidBook: ",
+    ],
+    [
+        "crates/book/src/laid.rt",
+        "    pub ghost laid: { Laid bytes.now header },\n",
+        "",
+        "a contract of book::laid::LaidBook,",
+    ],
+    [
+        "crates/accounts/src/energies.rt",
+        " by { Prim.hlevel props },\n    pub ghost sound: { EnergiesSound (energies_in bytes.now part) }",
+        "",
+        "accounts::energies::BookEnergies: ",
+    ],
+    [
+        "crates/rules/src/fields.rt",
+        "{ result ≡ ok self }",
+        "{ result ≡ true → ok self ≡ true }",
+        "rules::fields::Ruled::ok: ",
+    ],
+    [
+        "crates/rules/src/fields.rt",
+        "{ SIZE ≤ 64 }",
+        "{ SIZE ≤ 65 }",
+        "rules::fields::Ruled: ",
+    ],
+    [
+        "crates/rules/src/fields.rt",
+        "ghost ok = { entry_ok };",
+        "ghost ok = { any_entry };",
+        "rules::fields::Ruled for Entry: ",
+    ],
+    [
+        "crates/rules/src/order.rt",
+        "fn below(self, next: UnitRow) -> bool {",
+        "fn below(self, next: UnitRow) -> bool\n        requires { 0 ≡ 1 }\n    {",
+        "rules::order::UnitRow::below has no contract",
+    ],
+    [
+        "crates/nmas/src/lib.rt",
+        "ghost puts = { Wrote };",
+        "ghost puts = { WroteOrNot };",
+        "nmas::Puts for Written: ",
+    ],
+];
+
+#[test]
+fn a_type_or_a_trait_that_says_otherwise_is_noticed() {
+    let repository = Repository::read();
+    let watch = Watch::over(&repository, promises::differing_contracts);
+    for [path, old, new, about] in SAID_OTHERWISE {
+        watch.notices(about, |changed| replace(changed, path, old, new));
+    }
+}
+
+/// A type that has said nothing, and what a further type has for a trait.
+#[test]
+fn a_type_that_begins_to_say_something_is_noticed() {
+    let repository = Repository::read();
+    let header = "crates/book/src/header.rt";
+    let guards: [(Guard, &str); 3] = [
+        (promises::differing_contracts, "book::header::Header has no"),
+        (promises::types_unnamed, "tell of book::header::Header"),
+        (
+            promises::asked_unlike_the_code,
+            "`book::header::Header::units_at",
+        ),
+    ];
+    for (guard, about) in guards {
+        Watch::over(&repository, guard).notices(about, |changed| {
+            let (old, new) = (
+                "pub struct Header {\n",
+                "    pub ghost few: { Few units },\n",
+            );
+            replace(changed, header, old, &format!("{old}{new}"));
+        });
+    }
+    let contracts = Watch::over(&repository, promises::differing_contracts);
+    contracts.notices("recovery::kinds::Factored for Contract has no", |changed| {
+        let further = "\nimpl Factored for Contract {\n    ghost factors = { none };\n}\n";
+        append(changed, "crates/recovery/src/kinds.rt", further);
+    });
+}
+
+#[test]
+fn a_type_that_no_words_tell_of_is_noticed() {
+    let repository = Repository::read();
+    let watch = Watch::over(&repository, promises::types_unnamed);
+    for path in [
+        "book::laid::LaidBook",
+        "accounts::energies::BookEnergies",
+        "lines::portion::Portion",
+        "nmas::Puts",
+        "recovery::kinds::Factored",
+        "rules::fields::Ruled",
+        "rules::order::Ordered",
+    ] {
+        let name = path.rsplit("::").next().expect("it has a last part");
+        watch.notices(path, |changed| {
+            rewrite(changed, promises::PAGE, |page| {
+                let page = page.replace(&format!("::{name}`"), "`");
+                page.replace(&format!("`{name}`"), "it")
+            });
+        });
+    }
 }
 
 #[test]
@@ -320,23 +531,30 @@ fn a_dependency_that_nothing_uses_is_noticed() {
 fn a_contract_that_the_page_has_otherwise_is_noticed() {
     let repository = Repository::read();
     let watch = Watch::over(&repository, promises::differing_contracts);
-    let functions = public_functions(&repository);
-    for function in &functions {
-        let entry = format!("\n{}\n", entry(function));
-        watch.notices(&function.path, on_the_page(&entry, "\n"));
+    let entries = entries(&repository);
+    for entry in &entries {
+        let text = format!("\n{}\n", entry.text);
+        watch.notices(&entry.path, on_the_page(&text, "\n"));
     }
-    let function = &functions[0];
-    let (path, entry) = (&function.path, entry(function));
-    let weaker = format!("{path}{}", function.signature);
-    watch.notices(path, on_the_page(&entry, &weaker));
-    watch.notices(path, on_the_page(&entry, &format!("{entry}\n{entry}")));
     let heading = "\n## ground\n";
-    assert_ne!(function.crate_name(), "ground");
-    watch.notices("not as it would be printed", |changed| {
-        replace(changed, promises::PAGE, &format!("\n{entry}\n"), "\n");
-        let moved = format!("{heading}\n```\n{entry}\n```\n");
-        replace(changed, promises::PAGE, heading, &moved);
-    });
+    for path in [
+        "asked::check",
+        "book::laid::LaidBook",
+        "nmas::Puts for Written",
+    ] {
+        let mut entries = entries.iter();
+        let entry = entries.find(|entry| entry.path == path);
+        let text = &entry.expect("it has an entry").text;
+        let weaker = text.lines().next().expect("it has a first line");
+        watch.notices(path, on_the_page(text, weaker));
+        watch.notices(path, on_the_page(text, &format!("{text}\n{text}")));
+        assert_ne!(first_part(path), "ground");
+        watch.notices("not as it would be printed", |changed| {
+            replace(changed, promises::PAGE, &format!("\n{text}\n"), "\n");
+            let moved = format!("{heading}\n```\n{text}\n```\n");
+            replace(changed, promises::PAGE, heading, &moved);
+        });
+    }
     let behind = format!("\nWords behind a block.\n{heading}");
     watch.notices("Words behind a block", on_the_page(heading, &behind));
     watch.notices("its end", |changed| {
@@ -365,19 +583,47 @@ fn an_item_that_no_longer_says_what_is_asked_is_noticed() {
     let repository = Repository::read();
     let watch = Watch::over(&repository, promises::asked_unlike_the_code);
     for item in promises::function_items(&repository) {
-        watch.notices(item.front, |changed| {
-            rewrite(changed, promises::PAGE, |page| {
-                let at = page
-                    .find(&format!("\n- {}: ", item.front))
-                    .expect("it has the item");
-                let (before, rest) = page.split_at(at);
-                let asks = match item.note("Asks") {
-                    Some("nothing") => "  - Asks: something",
-                    _ => "  - Asks: nothing",
-                };
-                before.to_owned() + &rest.replacen("  - Asks:", &format!("{asks}\n  - "), 1)
-            });
-        });
+        let asks = match item.note("Asks") {
+            Some("nothing") => "something",
+            _ => "nothing",
+        };
+        watch.notices(item.front, |changed| have_it_ask(changed, &item, asks));
+    }
+}
+
+/// Has an item of the page say that its functions ask this.
+fn have_it_ask(repository: &mut Repository, item: &page::Item, asks: &str) {
+    let front = format!("\n- {}: ", item.front);
+    rewrite(repository, promises::PAGE, |page| {
+        let at = page.find(&front).expect("it has the item");
+        let (before, rest) = page.split_at(at);
+        let asks = format!("  - Asks: {asks}\n  - ");
+        before.to_owned() + &rest.replacen("  - Asks:", &asks, 1)
+    });
+}
+
+/// Of functions without a `requires`, which ask by a type alone: of a book that is laid,
+/// lent or their own, and of a book's energies.
+#[test]
+fn a_type_that_asks_and_is_not_told_is_noticed() {
+    let repository = Repository::read();
+    let watch = Watch::over(&repository, promises::asked_unlike_the_code);
+    let functions = public_functions(&repository);
+    let items = promises::function_items(&repository);
+    for name in [
+        "passes::none_refuses",
+        "checks::one_by_one",
+        "verdict::settles_tests",
+        "book::laid::LaidBook::entries",
+        "accounts::own_energy",
+    ] {
+        let mut functions = functions.iter();
+        let function = functions.find(|function| function.path == name);
+        let function = function.expect("it is public");
+        assert_eq!(function.requires().count(), 0, "{name}");
+        let names = |item: &&page::Item| promises::names_in(item).contains(&name.to_owned());
+        let item = items.iter().find(names).expect("it has an item");
+        watch.notices(item.front, |changed| have_it_ask(changed, item, "nothing"));
     }
 }
 
@@ -467,6 +713,13 @@ const LOW: &str = "const LIMIT: u8 = 5;\n
 pub fn first(n: u8) -> u8 {\n    helped(n) // } fn other(\n}\n
 fn helped(n: u8) -> u8 {\n    let text = b\"}\";\n    n + LIMIT\n}\n
 pub fn second(n: u8) -> u8 {\n    n * 2\n}\n";
+/// A trait, a type that has it by a helper, and a caller of any type's.
+const KINDS: &str =
+    "pub trait Kept {\n    fn kept(self) -> bool\n        ensures { result ≡ k self };\n}\n
+impl Kept for Row {\n    fn kept(self) -> bool {\n        few(self.n)\n    }\n}\n
+fn few(n: u8) -> bool {\n    n < 5\n}\n
+pub fn any<R: Kept>(r: R) -> bool {\n    r.kept()\n}\n
+pub fn other(n: u8) -> bool {\n    n < 6\n}\n";
 const HIGH: &str =
     "use low;\n\npub fn both(n: u8) -> u8 {\n    low::first(n) + low::second(n)\n}\n";
 
@@ -475,6 +728,7 @@ fn listed(edit: &str, function: &str, name: &str) -> Repository {
     let page = format!("## low\n\n- `{function}`: its result\n  - Edits: {name}\n");
     repository_of(&[
         ("crates/low/src/lib.rt", LOW),
+        ("crates/low/src/kinds.rt", KINDS),
         ("crates/high/src/lib.rt", HIGH),
         ("crates/low/specs/Low.antt", "limit = 5\n"),
         ("crates/low/must-fail/wrong.edit", edit),
@@ -485,6 +739,9 @@ fn listed(edit: &str, function: &str, name: &str) -> Repository {
 const OF_HELPER: &str = "file: src/lib.rt\nold: n + LIMIT\nnew: n\n";
 const OF_CONSTANT: &str = "file: src/lib.rt\nold: u8 = 5;\nnew: u8 = 6;\n";
 const OF_SECOND: &str = "file: src/lib.rt\nold:     n * 2\nnew:     n * 3\n";
+const OF_TYPE: &str = "file: src/kinds.rt\nold: few(self.n)\nnew: few(0)\n";
+const OF_TYPE_S_HELPER: &str = "file: src/kinds.rt\nold: n < 5\nnew: n < 4\n";
+const OF_OTHER: &str = "file: src/kinds.rt\nold: n < 6\nnew: n < 7\n";
 const OF_DEFINITION: &str = "file: specs/Low.antt\nold: 5\nnew: 6\n";
 
 #[test]
@@ -496,6 +753,10 @@ fn an_edit_of_another_function_is_noticed() {
         (OF_SECOND, "high::both", "low/wrong (of low::second)"),
         (OF_HELPER, "high::both", "low/wrong (of `first`)"),
         (OF_DEFINITION, "high::both", "low/wrong"),
+        (OF_TYPE, "low::kinds::Kept::kept", "low/wrong"),
+        (OF_TYPE_S_HELPER, "low::kinds::Kept::kept", "low/wrong"),
+        (OF_TYPE, "low::kinds::any", "low/wrong (of Kept::kept)"),
+        (OF_TYPE, "low::kinds::any", "low/wrong (of Row::kept)"),
     ];
     for (edit, function, name) in quiet {
         let repository = listed(edit, function, name);
@@ -509,6 +770,8 @@ fn an_edit_of_another_function_is_noticed() {
         (OF_SECOND, "high::both", "low/wrong"),
         (OF_SECOND, "high::both", "low/wrong (of low::first)"),
         (OF_SECOND, "low::first", "low/wrong (of low::second)"),
+        (OF_OTHER, "low::kinds::Kept::kept", "low/wrong"),
+        (OF_OTHER, "low::kinds::any", "low/wrong (of Kept::kept)"),
     ];
     for (edit, function, name) in noticed {
         let complaints = edits::of_other_functions(&listed(edit, function, name));

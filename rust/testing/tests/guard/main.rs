@@ -11,6 +11,7 @@ mod constants;
 mod dependencies;
 mod edge;
 mod edits;
+mod ghosts;
 mod layout;
 mod losses;
 mod page;
@@ -52,6 +53,11 @@ fn every_public_function_is_named_in_promises() {
 #[test]
 fn promises_says_which_functions_ask_nothing() {
     assert_none(&promises::asked_unlike_the_code(&Repository::read()));
+}
+
+#[test]
+fn types_that_say_something_are_told_of_in_promises() {
+    assert_none(&promises::types_unnamed(&Repository::read()));
 }
 
 #[test]

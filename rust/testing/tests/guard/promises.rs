@@ -1,12 +1,14 @@
 //! Guards of the public functions' promises: that each has one which says something,
 //! that `docs/PROMISES.md` has a heading for each crate and the promise under it word for
-//! word, and that an item there names the function.
+//! word, and that an item there names the function and says what it asks. What types and
+//! traits say by ghost items is held in the same way.
 
-use crate::page::{code_spans, headings, items, Item};
-use crate::rattle::{is_word_letter, public_functions, Function};
+use crate::ghosts::{asking_types, public_declarations, Kind};
+use crate::page::{code_spans, headings, items, prose, Item};
+use crate::rattle::{first_part, is_word_letter, public_functions, Function};
 use crate::repository::Repository;
 pub use crate::word_for_word::PAGE;
-use crate::word_for_word::{entry, renewed};
+use crate::word_for_word::{entries, renewed};
 
 /// Public functions without a promise, or with one that says nothing.
 pub fn empty_promises(repository: &Repository) -> Vec<String> {
@@ -137,39 +139,42 @@ fn is_balanced(text: &str) -> bool {
 /// Where the page's contracts and the code's differ.
 pub fn differing_contracts(repository: &Repository) -> Vec<String> {
     let page = repository.text(PAGE);
-    let written = entries(page);
-    let functions = public_functions(repository);
+    let written = written_entries(page);
+    let entries = entries(repository);
     let mut differing = Vec::new();
-    for function in &functions {
-        let known = written
-            .iter()
-            .filter(|entry| path_in(entry) == function.path);
+    for entry in &entries {
+        let path = &entry.path;
+        let known = written.iter().filter(|known| path_in(known) == path);
         match known.collect::<Vec<_>>()[..] {
-            [] => differing.push(format!("{} has no contract in {PAGE}", function.path)),
-            [known] if *known == entry(function) => {}
-            [_] => differing.push(format!("{}: {PAGE} has another contract", function.path)),
-            _ => differing.push(format!("{} stands in {PAGE} twice", function.path)),
+            [] => differing.push(format!("{path} has no contract in {PAGE}")),
+            [known] if *known == entry.text => {}
+            [_] => differing.push(format!("{path}: {PAGE} has another contract")),
+            _ => differing.push(format!("{path} stands in {PAGE} twice")),
         }
     }
     for path in written.iter().map(|entry| path_in(entry)) {
-        if !functions.iter().any(|function| function.path == path) {
+        if !entries.iter().any(|entry| entry.path == path) {
             differing.push(format!(
                 "{PAGE} has a contract of {path}, which is not public"
             ));
         }
     }
-    let renewed = renewed(repository);
-    if differing.is_empty() && page != renewed {
-        let mut lines = page.lines().zip(renewed.lines());
-        let other = lines.find(|(line, printed)| line != printed);
-        let (line, _) = other.unwrap_or(("its end", ""));
-        differing.push(format!("{PAGE} is not as it would be printed: {line}"));
+    if differing.is_empty() {
+        differing.extend(printed_otherwise(page, &renewed(repository)));
     }
     differing
 }
 
+/// The first line of the page that is not as it would be printed.
+fn printed_otherwise(page: &str, renewed: &str) -> Option<String> {
+    let mut lines = page.lines().zip(renewed.lines());
+    let other = lines.find(|(line, printed)| line != printed);
+    let (line, _) = other.unwrap_or(("its end", ""));
+    (page != renewed).then(|| format!("{PAGE} is not as it would be printed: {line}"))
+}
+
 /// The entries of the page's blocks: a line, and those further in that follow it.
-fn entries(page: &str) -> Vec<String> {
+fn written_entries(page: &str) -> Vec<String> {
     let blocks = page.split("```").skip(1).step_by(2);
     let mut entries: Vec<String> = Vec::new();
     for line in blocks.flat_map(str::lines).filter(|line| !line.is_empty()) {
@@ -185,7 +190,7 @@ fn entries(page: &str) -> Vec<String> {
 }
 
 fn path_in(entry: &str) -> &str {
-    entry.split(['(', '<']).next().unwrap_or(entry)
+    entry.split(['(', '<', '\n']).next().unwrap_or(entry)
 }
 
 /// The page's headings have to be the crates, from the last that `crates.txt` lists to
@@ -269,19 +274,60 @@ pub fn functions_unnamed(repository: &Repository) -> Vec<String> {
     unnamed
 }
 
-/// Items that ask nothing of the caller though one of their functions has a `requires`,
-/// or ask something though none has.
+/// Items that ask nothing of the caller though one of their functions has a `requires` or
+/// takes a value that itself says something, or ask something though none does.
 pub fn asked_unlike_the_code(repository: &Repository) -> Vec<String> {
     let functions = public_functions(repository);
+    let types = asking_types(repository);
     let mut unlike = Vec::new();
     for item in function_items(repository) {
         let names = names_in(&item);
         let is_meant = |function: &&Function| names.iter().any(|name| function.is_named(name));
         let mut meant = functions.iter().filter(is_meant);
-        let asks = meant.any(|function| function.requires().next().is_some());
+        let asks = meant.any(|function| asks(function, &types));
         if (item.note("Asks") == Some("nothing")) == asks {
             unlike.push(format!("{PAGE} does not say what {} asks", item.front));
         }
     }
     unlike
+}
+
+/// Whether a caller has to show something: what a `requires` says, or what a value of one
+/// of these types says that it hands over.
+fn asks(function: &Function, types: &[String]) -> bool {
+    let owner = function.owner.as_deref();
+    let mut words = function.parameters().split(|sign| !is_word_letter(sign));
+    let takes_one = words.any(|word| {
+        let named = match word {
+            "self" | "Self" => owner.unwrap_or(word),
+            _ => word,
+        };
+        types.iter().any(|name| name == named)
+    });
+    takes_one || function.requires().next().is_some()
+}
+
+/// Types and traits that say something by ghost items, and that no words under their
+/// crate's heading speak of: what a type has for a trait is told beside the trait.
+pub fn types_unnamed(repository: &Repository) -> Vec<String> {
+    let declared = public_declarations(repository).into_iter();
+    let mut unnamed = Vec::new();
+    for one in declared.filter(|one| one.kind != Kind::OfTrait) {
+        let words = words_under(repository.text(PAGE), first_part(&one.path));
+        let mut spans = words.iter().flat_map(|line| code_spans(line));
+        let end = format!("::{}", one.name);
+        if !spans.any(|span| span == one.name || span.ends_with(&end)) {
+            unnamed.push(format!("{PAGE} does not tell of {}", one.path));
+        }
+    }
+    unnamed
+}
+
+/// The lines of prose under a heading.
+fn words_under<'a>(page: &'a str, heading: &str) -> Vec<&'a str> {
+    let section = prose(page).skip_while(|line| line.strip_prefix("## ") != Some(heading));
+    let section = section.skip(1);
+    section
+        .take_while(|line| !line.starts_with("## "))
+        .collect()
 }

@@ -6,9 +6,10 @@ use crate::repository::Repository;
 /// A function, public or not.
 #[derive(Clone, Debug)]
 pub struct Function {
-    /// `crate::module::name`, or `crate::module::Type::name`.
+    /// `crate::module::name`, or `crate::module::Type::name`, where the type may be a trait.
     pub path: String,
     pub file: String,
+    /// Whether it says so itself, or a trait that does has it.
     pub is_public: bool,
     /// Whether C calls it.
     pub is_extern: bool,
@@ -21,8 +22,12 @@ pub struct Function {
     pub clauses: Vec<String>,
     /// The first and the last line, counted from 1.
     pub lines: (usize, usize),
-    /// The type whose method or function it is.
+    /// The type or the trait whose method or function it is.
     pub owner: Option<String>,
+    /// Whether the owner is a trait, so that each of its types has one of its own.
+    pub is_of_trait: bool,
+    /// The trait that its owner has it for.
+    pub for_trait: Option<String>,
     pub calls: Vec<Call>,
     /// The words of the body.
     pub words: Vec<String>,
@@ -38,8 +43,7 @@ pub struct Call {
 
 impl Function {
     pub fn crate_name(&self) -> &str {
-        let front = self.path.split("::").next();
-        front.expect("a path has a first part")
+        first_part(&self.path)
     }
 
     pub fn name(&self) -> &str {
@@ -57,6 +61,16 @@ impl Function {
         clauses.filter(|clause| clause.starts_with("requires"))
     }
 
+    /// The signature up to the bracket that closes its parameters.
+    pub fn parameters(&self) -> &str {
+        let mut depth = 0;
+        let end = self.signature.find(|letter| {
+            depth += i32::from(letter == '(') - i32::from(letter == ')');
+            depth == 0
+        });
+        &self.signature[..end.unwrap_or(self.signature.len())]
+    }
+
     /// Whether the path ends with these names, one or several.
     pub fn is_named(&self, names: &str) -> bool {
         let rest = self.path.strip_suffix(names);
@@ -68,12 +82,50 @@ impl Function {
     }
 }
 
+/// The crate that a path begins with.
+pub fn first_part(path: &str) -> &str {
+    let front = path.split("::").next();
+    front.expect("a path has a first part")
+}
+
+/// Every file of Rattle code, and its text.
+pub fn code(repository: &Repository) -> impl Iterator<Item = (&str, &str)> {
+    let files = repository.between("crates/", ".rt");
+    files.filter(|(path, _)| path.split('/').nth(2) == Some("src"))
+}
+
 /// Every function of every crate.
 pub fn all_functions(repository: &Repository) -> Vec<Function> {
-    let files = repository.between("crates/", ".rt");
-    let code = files.filter(|(path, _)| path.split('/').nth(2) == Some("src"));
-    code.flat_map(|(path, text)| functions(path, text))
-        .collect()
+    let code = code(repository);
+    let mut all: Vec<Function> = code
+        .flat_map(|(path, text)| functions(path, text))
+        .collect();
+    have_traits_call_their_types(&mut all);
+    all
+}
+
+/// A trait's method does what each of its types does by that name: it is read as a call
+/// of each, so that what is wrong in one is wrong in it.
+fn have_traits_call_their_types(all: &mut [Function]) {
+    let of_types: Vec<(String, Call)> = all.iter().filter_map(of_type).collect();
+    for function in all.iter_mut().filter(|function| function.is_of_trait) {
+        let is_meant = |name: &str, call: &Call| {
+            function.owner.as_deref() == Some(name) && function.name() == call.name
+        };
+        let calls = of_types.iter().filter(|(name, call)| is_meant(name, call));
+        let calls: Vec<Call> = calls.map(|(_, call)| call.clone()).collect();
+        function.calls.extend(calls);
+    }
+}
+
+/// The trait that a type has a function for, and the call of just that one.
+fn of_type(function: &Function) -> Option<(String, Call)> {
+    let call = Call {
+        qualifier: function.owner.clone(),
+        name: function.name().to_owned(),
+        is_method: false,
+    };
+    function.for_trait.clone().map(|name| (name, call))
 }
 
 /// Public functions alone.
@@ -84,13 +136,13 @@ pub fn public_functions(repository: &Repository) -> Vec<Function> {
 
 /// A word or a single sign, and where it stands.
 #[derive(Clone, Copy)]
-struct Token<'a> {
+pub struct Token<'a> {
     at: usize,
-    text: &'a str,
+    pub text: &'a str,
 }
 
 impl Token<'_> {
-    fn is_word(&self) -> bool {
+    pub fn is_word(&self) -> bool {
         self.text.starts_with(is_word_letter)
     }
 }
@@ -101,34 +153,46 @@ pub fn is_word_letter(letter: char) -> bool {
 
 /// The functions of one file.
 fn functions(file: &str, text: &str) -> Vec<Function> {
+    reading(file, text, |reader| {
+        let starts = (0..reader.tokens.len()).filter(|&at| reader.is(at, "fn"));
+        starts.filter_map(|at| reader.function(at)).collect()
+    })
+}
+
+/// What is made of one file's text, read by its words and brackets.
+pub fn reading<T>(file: &str, text: &str, make: impl FnOnce(&Reader) -> T) -> T {
     let bare = without_comments_and_strings(text);
     let tokens = tokens_of(&bare);
-    let reader = Reader {
+    make(&Reader {
         file,
         text,
         tokens: &tokens,
         owners: owners(&tokens),
-    };
-    let starts = (0..tokens.len()).filter(|&at| tokens[at].text == "fn");
-    starts.filter_map(|at| reader.function(at)).collect()
+    })
 }
 
-/// A block `impl Type { .. }`: from where to where, and the type's name.
-struct Owner<'a> {
-    from: usize,
-    to: usize,
-    name: &'a str,
+/// A block `impl Type { .. }`, `impl Trait for Type { .. }` or `trait Trait { .. }`.
+pub struct Owner<'a> {
+    /// Where its first word stands, where its brace opens, and where that closes.
+    pub from: usize,
+    pub open: usize,
+    pub to: usize,
+    /// The type's name, or that of the trait which the block declares.
+    pub name: &'a str,
+    pub is_trait: bool,
+    /// The trait that the type has here.
+    pub for_trait: Option<&'a str>,
 }
 
-struct Reader<'a> {
-    file: &'a str,
+pub struct Reader<'a> {
+    pub file: &'a str,
     text: &'a str,
-    tokens: &'a [Token<'a>],
-    owners: Vec<Owner<'a>>,
+    pub tokens: &'a [Token<'a>],
+    pub owners: Vec<Owner<'a>>,
 }
 
 impl Reader<'_> {
-    fn is(&self, at: usize, text: &str) -> bool {
+    pub fn is(&self, at: usize, text: &str) -> bool {
         self.tokens.get(at).is_some_and(|token| token.text == text)
     }
 
@@ -139,8 +203,7 @@ impl Reader<'_> {
         let behind = self.behind_kinds(at + 2);
         let open = (behind..self.tokens.len()).find(|&at| self.is(at, "("))?;
         let mut next = closing(self.tokens, open) + 1;
-        let mut clauses = Vec::new();
-        let mut signature_end = None;
+        let (mut clauses, mut signature_end) = (Vec::new(), None);
         while next < self.tokens.len() && !self.is(next, "{") && !self.is(next, ";") {
             if self.is(next, "requires") || self.is(next, "ensures") {
                 signature_end.get_or_insert(next);
@@ -153,24 +216,29 @@ impl Reader<'_> {
             next = closing(self.tokens, next) + 1;
         }
         let end = closing(self.tokens, next);
-        let owner = self.owner(at);
+        let block = self.owner(at);
+        let owner = block.map(|block| block.name);
+        let of_trait = block.filter(|block| block.is_trait);
         Some(Function {
             path: path_of(self.file, owner, name.text),
             file: self.file.to_owned(),
-            is_public,
+            // A trait's methods are as public as the trait.
+            is_public: is_public || of_trait.is_some_and(|block| self.is_public(block.from)),
             is_extern: (start..at).any(|at| self.is(at, "extern")),
             kinds: of_types(self.between(at + 2, behind)),
             signature: on_one_line(&self.between(open, signature_end.unwrap_or(next))),
             clauses,
             lines: (self.line(start), self.line(end)),
             owner: owner.map(str::to_owned),
+            is_of_trait: of_trait.is_some(),
+            for_trait: block.and_then(|block| block.for_trait.map(str::to_owned)),
             calls: calls(&self.tokens[next..end]),
             words: words(&self.tokens[next..end]),
         })
     }
 
     /// Where what stands between `<` and `>` ends, if anything does.
-    fn behind_kinds(&self, start: usize) -> usize {
+    pub fn behind_kinds(&self, start: usize) -> usize {
         let (mut at, mut depth) = (start, 0);
         while at < self.tokens.len() {
             depth += i32::from(self.is(at, "<"));
@@ -190,20 +258,25 @@ impl Reader<'_> {
         while start > 0 && ["extern", "const", "unsafe"].contains(&self.tokens[start - 1].text) {
             start -= 1;
         }
-        match start.checked_sub(1) {
-            Some(before) if self.is(before, "pub") => (before, true),
-            _ => (start, false),
+        match self.is_public(start) {
+            true => (start - 1, true),
+            false => (start, false),
         }
     }
 
-    fn owner(&self, at: usize) -> Option<&str> {
+    /// Whether `pub` stands before what begins at this token.
+    pub fn is_public(&self, start: usize) -> bool {
+        let before = start.checked_sub(1);
+        before.is_some_and(|before| self.is(before, "pub"))
+    }
+
+    fn owner(&self, at: usize) -> Option<&Owner<'_>> {
         let mut owners = self.owners.iter();
-        let owner = owners.find(|owner| (owner.from..owner.to).contains(&at));
-        owner.map(|owner| owner.name)
+        owners.find(|owner| (owner.from..owner.to).contains(&at))
     }
 
     /// The text from one token up to another, white space made single.
-    fn between(&self, from: usize, to: usize) -> String {
+    pub fn between(&self, from: usize, to: usize) -> String {
         let start = self.tokens[from].at;
         let end = self
             .tokens
@@ -213,7 +286,7 @@ impl Reader<'_> {
         text.split_whitespace().collect::<Vec<_>>().join(" ")
     }
 
-    fn line(&self, token: usize) -> usize {
+    pub fn line(&self, token: usize) -> usize {
         let at = self
             .tokens
             .get(token)
@@ -312,7 +385,7 @@ fn tokens_of(text: &str) -> Vec<Token<'_>> {
 }
 
 /// The token that closes the bracket at `open`; `open` itself where none stands there.
-fn closing(tokens: &[Token<'_>], open: usize) -> usize {
+pub fn closing(tokens: &[Token<'_>], open: usize) -> usize {
     let Some(opener) = tokens.get(open) else {
         return open;
     };
@@ -334,14 +407,28 @@ fn closing(tokens: &[Token<'_>], open: usize) -> usize {
 }
 
 fn owners<'a>(tokens: &[Token<'a>]) -> Vec<Owner<'a>> {
-    let starts = (0..tokens.len()).filter(|&at| tokens[at].text == "impl");
-    let owners = starts.filter_map(|from| {
-        let open = (from..tokens.len()).find(|&at| tokens[at].text == "{")?;
-        let name = last_type(&tokens[from + 1..open])?;
-        let to = closing(tokens, open);
-        Some(Owner { from, to, name })
-    });
-    owners.collect()
+    let starts = (0..tokens.len()).filter(|&at| ["impl", "trait"].contains(&tokens[at].text));
+    starts.filter_map(|from| owner(tokens, from)).collect()
+}
+
+fn owner<'a>(tokens: &[Token<'a>], from: usize) -> Option<Owner<'a>> {
+    let open = (from..tokens.len()).find(|&at| tokens[at].text == "{")?;
+    let is_trait = tokens[from].text == "trait";
+    let head = &tokens[from + 1..open];
+    let name = match is_trait {
+        // Behind its name may stand what its types have to be besides.
+        true => head.first().map(|token| token.text),
+        false => last_type(head),
+    };
+    let before_type = head.iter().position(|token| token.text == "for");
+    Some(Owner {
+        from,
+        open,
+        to: closing(tokens, open),
+        name: name?,
+        is_trait,
+        for_trait: before_type.and_then(|at| last_type(&head[..at])),
+    })
 }
 
 /// `Type` of `<'a> Type<'a>` and of `Trait for Type`.
@@ -385,14 +472,14 @@ fn call(body: &[Token<'_>], name: usize) -> Call {
     }
 }
 
-fn words(body: &[Token<'_>]) -> Vec<String> {
+pub fn words(body: &[Token<'_>]) -> Vec<String> {
     let words = body.iter().filter(|token| token.is_word());
     words.map(|token| token.text.to_owned()).collect()
 }
 
 /// `crates/NAME/src/FILE.rt` and what stands in it: the crate's own file has no
 /// name of its own.
-fn path_of(file: &str, owner: Option<&str>, name: &str) -> String {
+pub fn path_of(file: &str, owner: Option<&str>, name: &str) -> String {
     let parts = file.trim_end_matches(".rt").split('/').skip(1);
     let parts = parts.filter(|part| !["src", "lib", "main", "mod"].contains(part));
     let parts = parts.chain(owner).chain([name]);
@@ -549,6 +636,48 @@ pub fn lent<'a>(text: &'a [u8]) {}
             ("", "(text: &'a [u8])"),
         ];
         assert_eq!(read, expected);
+    }
+
+    #[test]
+    fn what_a_trait_asks_is_read() {
+        let code = "
+pub trait Put: Copy {
+    fn put(self, text: &mut [u8]) -> u8
+        requires { room text.old }
+        ensures { puts text.new result };
+}
+
+impl<'a> Put for Few<'a> {
+    fn put(self, text: &mut [u8]) -> u8 {
+        text[0]
+    }
+}
+
+trait Hidden {
+    fn hide(self) -> u8;
+}
+";
+        let functions = functions("crates/edge/src/kinds.rt", code);
+        let read: Vec<_> = functions
+            .iter()
+            .map(|one| (one.path.as_str(), one.is_public, one.for_trait.as_deref()))
+            .collect();
+        let expected = [
+            ("edge::kinds::Put::put", true, None),
+            ("edge::kinds::Few::put", false, Some("Put")),
+            ("edge::kinds::Hidden::hide", false, None),
+        ];
+        assert_eq!(read, expected);
+        let [put, ..] = &functions[..] else {
+            panic!("nothing was read");
+        };
+        let clauses = [
+            "requires { room text.old }",
+            "ensures { puts text.new result }",
+        ];
+        assert_eq!(put.clauses, clauses);
+        assert_eq!(put.parameters(), "(self, text: &mut [u8]");
+        assert_eq!(put.lines, (3, 5));
     }
 
     #[test]
