@@ -2,7 +2,7 @@
 // What the checks before have shown stands in the requires of those after them.
 #![tactic(auto)]
 
-ghost use Rattle.std.specs.Prelude.{◌≡◌, ◌≤◌, length};
+ghost use Rattle.std.specs.Prelude.{◌≡◌, [], ◌∷◌, ◌≤◌, length};
 ghost use Rattle.sections.specs.Refusal.{first_of};
 ghost use Rattle.book.specs.Book.{book_of};
 ghost use Rattle.book.specs.Laid.{book_at};
@@ -41,8 +41,6 @@ fn order(book: &LaidBook) -> Result<(), Refusal>
 }
 
 // 7: a unit row that names no constraint here, or one of mode 0.
-// Not inlined, here and for 8, so that what these want of the stack is gone before 9 is asked.
-#[inline(never)]
 fn names(book: &LaidBook) -> Result<(), Refusal>
     requires { Ordered (book_at book.now) }
     ensures { result ≡ check7 (book_at book.now) }
@@ -58,7 +56,6 @@ fn names(book: &LaidBook) -> Result<(), Refusal>
 }
 
 // 8: factor sums that fail.
-#[inline(never)]
 fn factor_sums(book: &LaidBook) -> Result<(), Refusal>
     requires fields { Fields (book_at book.now) }
     requires ordered { Ordered (book_at book.now) }
@@ -104,15 +101,24 @@ pub fn zero_totals(book: &LaidBook, locked: &[u8]) -> Result<(), Refusal>
     )
 }
 
+// Checks 5 to 8 one by one: the first that refuses decides.
+// Not inlined, so that what they want of the stack is gone before 9 is asked.
+#[inline(never)]
+fn up_to_factors(book: &LaidBook) -> Result<(), Refusal>
+    ensures { result ≡ first_of (check5 (book_at book.now) ∷ check6 (book_at book.now) ∷ check7 (book_at book.now) ∷ check8 (book_at book.now) ∷ []) }
+{
+    fields(book)?;
+    order(book)?;
+    names(book)?;
+    factor_sums(book)
+}
+
 // Checks 5 to 9 one by one: the first that refuses decides.
 // Not inlined, so that a book that is accepted needs no room for them on the stack.
 #[inline(never)]
 pub fn one_by_one(book: &LaidBook) -> Result<(), Refusal>
     ensures { result ≡ first_of (record_checks (book_at book.now)) }
 {
-    fields(book)?;
-    order(book)?;
-    names(book)?;
-    factor_sums(book)?;
+    up_to_factors(book)?;
     region_sums(book)
 }

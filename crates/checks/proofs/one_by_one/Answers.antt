@@ -1,38 +1,21 @@
--- `checks::one_by_one` meets its contract. Each check decides, or leaves the word and what it has shown to the next. Assumes nothing.
-use Rattle.sections.proofs.Verdicts.{handed_on, verdict_stop, verdict_go, verdict_last}
-use Rattle.book.proofs.Steps.{fields_of, ordered_of, named_of}
+-- `checks::one_by_one` meets its contract. 5 to 8 decide, or leave the word and what 5 has shown to 9. Assumes nothing.
+use mathlib.Core.Path.{refl, sym, ◌∙◌}
+use mathlib.Core.List.{[], ◌∷◌}
+use Rattle.sections.proofs.Verdicts.{handed_on, verdict_stop, verdict_go, verdict_last, first_held, first_joined}
+use Rattle.book.specs.Laid.{book_at}
+use Rattle.book.specs.Table.{check5, check6, check7, check8, check9}
+use Rattle.book.proofs.Steps.{fields_of}
 use Rattle.checks.proofs.one_by_one.Goals as goal
 
-pub returns-in_err-fields : goal.returns-in_err-fields
-returns-in_err-fields c = verdict_stop _ c.in_err-fields.was (handed_on _ c.from_residual.ensures.1) c.fields.ensures
-
-pub returns-in_err-order : goal.returns-in_err-order
-returns-in_err-order c = verdict_go _ c.in_ok-fields.was c.fields.ensures
-    (verdict_stop _ c.in_err-order.was (handed_on _ c.from_residual-in_err-order.ensures.1) c.order.ensures)
-
-pub names-requires : goal.names-requires
-names-requires c = ordered_of _ c.in_ok-order.was c.order.ensures
-
-pub returns-in_err-names : goal.returns-in_err-names
-returns-in_err-names c = verdict_go _ c.in_ok-fields.was c.fields.ensures
-    (verdict_go _ c.in_ok-order.was c.order.ensures
-    (verdict_stop _ c.in_err-names.was (handed_on _ c.from_residual-in_err-names.ensures.1) c.names.ensures))
-
-pub factor_sums-requires : goal.factor_sums-requires
-factor_sums-requires c = record { fields = fields_of _ c.in_ok-fields.was c.fields.ensures; ordered = ordered_of _ c.in_ok-order.was c.order.ensures; named = named_of _ c.in_ok-names.was c.names.ensures }
-
-pub returns-in_err-factor_sums : goal.returns-in_err-factor_sums
-returns-in_err-factor_sums c = verdict_go _ c.in_ok-fields.was c.fields.ensures
-    (verdict_go _ c.in_ok-order.was c.order.ensures
-    (verdict_go _ c.in_ok-names.was c.names.ensures
-    (verdict_stop _ c.in_err-factor_sums.was (handed_on _ c.from_residual-in_err-factor_sums.ensures.1) c.factor_sums.ensures)))
+pub returns-in_err-up_to_factors : goal.returns-in_err-up_to_factors
+returns-in_err-up_to_factors c = let B = book_at c.args.book.now in
+    verdict_stop _ c.in_err-up_to_factors.was (handed_on _ c.from_residual.ensures.1) c.up_to_factors.ensures
+    ∙ first_joined (check5 B ∷ check6 B ∷ check7 B ∷ check8 B ∷ []) (check9 B ∷ [])
 
 pub region_sums-requires : goal.region_sums-requires
-region_sums-requires c = fields_of _ c.in_ok-fields.was c.fields.ensures
+region_sums-requires c = fields_of _ (first_held _ _ (sym c.up_to_factors.ensures ∙ c.in_ok-up_to_factors.was)).here refl
 
 pub returns : goal.returns
-returns c = verdict_go _ c.in_ok-fields.was c.fields.ensures
-    (verdict_go _ c.in_ok-order.was c.order.ensures
-    (verdict_go _ c.in_ok-names.was c.names.ensures
-    (verdict_go _ c.in_ok-factor_sums.was c.factor_sums.ensures
-    (verdict_last c.region_sums.ensures))))
+returns c = let B = book_at c.args.book.now in
+    verdict_go _ c.in_ok-up_to_factors.was c.up_to_factors.ensures (verdict_last c.region_sums.ensures)
+    ∙ first_joined (check5 B ∷ check6 B ∷ check7 B ∷ check8 B ∷ []) (check9 B ∷ [])
