@@ -73,6 +73,8 @@ fn factor_sums(book: &LaidBook) -> Result<(), Refusal>
 }
 
 // 9: a region entry that differs from its rows' sums.
+// Not inlined, so that the sums of the energy rows have no room on the stack while 5 to 8 are asked.
+#[inline(never)]
 fn region_sums(book: &LaidBook) -> Result<(), Refusal>
     requires { Fields (book_at book.now) }
     ensures { result ≡ check9 (book_at book.now) }
