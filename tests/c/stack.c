@@ -361,7 +361,7 @@ static void measure_all_refused(void)
     measure_fault(9, 0, HEADER_LEN, 4, 0);           /* NSW1 without ACE */
     measure_fault(18, 1, HEADER_LEN, 4, 0);
     locked_len = 0;
-    measure_fault(17, 0, 0, 1, 'R');
+    measure_fault(17, 0, 0, 1, 'R');                 /* no locked book */
     book_len = ENTRIES_END - 1;
     measure_refused(1);
     book_len = ENTRIES_END + CONSTRAINT_LEN;
