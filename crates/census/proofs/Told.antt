@@ -55,7 +55,8 @@ module _ (name : ℕ → ℕ) (links : List ℕ) (a : ℕ) where
             },
           )
 
-  found_told : ∥ Found name links a ∥₁ → Found name links a
+  -- so where it is only said that there is a way to the name, there is one
+  pub found_told : ∥ Found name links a ∥₁ → Found name links a
   found_told t =
       let x = ∥∥₁_elim t nearest_once nearest_of in
       record { depth = x.0; filled = x.1.filled; own = x.1.own }
